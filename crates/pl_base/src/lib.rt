@@ -1,0 +1,29 @@
+//! Plain types that every layer shares: addresses, numbers, permissions, places, states and refusals.
+//!
+//! A page is named by its number from the start of off-chip memory, a `u32`.
+#![tactic(auto)]
+
+mod access;
+mod actor;
+mod address;
+mod fault;
+mod listed;
+mod number;
+mod perms;
+mod place;
+mod refusal;
+mod state;
+
+pub use access::{Kind, Mode};
+pub use actor::Actor;
+pub use address::{Pa, Ppn, Va, Vpn};
+pub use fault::{Failed, Memory};
+pub use listed::Listed;
+pub use number::{EncNo, HartNo, HartSet, Space};
+pub use perms::Perms;
+pub use place::Place;
+pub use refusal::No;
+pub use state::{State, Why};
+
+#[cfg(test)]
+mod tests;
