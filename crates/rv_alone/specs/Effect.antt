@@ -1,5 +1,5 @@
 -- What an instruction does to the registers and to pc (RISC-V Unprivileged ISA, RV64I).
-use Rattle.std.specs.Prelude.{ℕ, ℤ, pos, ◌+ℤ◌, ◌+◌, ◌%◌, ◌^◌, ◌==◌, if◌then◌else◌, List, slice_index, slice_set}
+use Rattle.std.specs.Prelude.{◌≡◌, ℕ, ℤ, pos, ◌+ℤ◌, ◌+◌, ◌%◌, ◌^◌, ◌==◌, if◌then◌else◌, List, slice_index, slice_set}
 use Rattle.std.specs.Option.{option_map_or}
 use Rattle.std.specs.Int.{int_rem_euclid}
 use Rattle.std.specs.Int.RustNames.{unsigned_abs}
@@ -38,3 +38,8 @@ effect_of context Ecall = Call (register context.regs 17) (register context.regs
 -- what a word does; an illegal one traps with cause 2
 abbrev pub act_of : Context → ℕ → Act
 act_of context word = option_map_or (effect_of context) (instruction_of word) (Trap 2 word)
+
+-- the next instruction, where there is one, is at a multiple of 4
+abbrev pub IsAligned : Act → Type 0
+IsAligned (Set context) = context.pc % 4 ≡ 0
+IsAligned _ = Unit {0}

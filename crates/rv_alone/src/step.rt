@@ -1,5 +1,5 @@
-ghost use Rattle.std.specs.Prelude.{◌≡◌, ◌<◌};
-ghost use Rattle.rv_alone.specs.Effect.{act_of, advanced, register, with_register, sum_of};
+ghost use Rattle.std.specs.Prelude.{◌≡◌, ◌<◌, ◌%◌};
+ghost use Rattle.rv_alone.specs.Effect.{IsAligned, act_of, advanced, register, with_register, sum_of};
 
 use rv_insn::{AluOp, Insn, decode};
 
@@ -62,7 +62,8 @@ fn sum_of(a: u64, imm: i32) -> u64
 
 /// What the word at `pc` does.
 pub fn next(context: &Context, word: u32) -> Act
-    ensures { result ≡ act_of context.now word }
+    ensures act { result ≡ act_of context.now word }
+    ensures aligned { context.now.pc % 4 ≡ 0 → IsAligned result }
 {
     match decode(word) {
         None => Act::Trap {

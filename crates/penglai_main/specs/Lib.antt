@@ -1,0 +1,9 @@
+pub mod Setup
+pub mod History
+pub mod Enclave
+pub mod Monitor
+pub mod Refusals
+pub mod Making
+pub mod Running
+pub mod Legal
+pub mod Follows

@@ -1,0 +1,41 @@
+// The setup of a run: one image of one page, and the script of one hart.
+use pl_base::{EncNo, Listed};
+use std::marker::Model;
+
+/// Which mounted zone makes room for another.
+#[derive(Clone, Copy, PartialEq, Eq, Debug)]
+pub enum ChoiceName {
+    Oldest,
+    Least,
+}
+
+/// A line of a hart's script.
+#[derive(Debug, Drop)]
+pub enum Line {
+    /// Makes an enclave number of an image, from these pages.
+    Create {
+        e: EncNo,
+        image: u8,
+        pages: Listed<u32>,
+    },
+    /// Runs a fresh enclave for at most so many instructions.
+    Run { e: EncNo, budget: u32 },
+}
+
+/// A setup that was accepted. Contracts see it as `SetupData`.
+#[derive(Debug, Drop)]
+pub struct Setup {
+    page: Vec<u8>,
+    lines: Vec<Line>,
+}
+
+impl Model for Setup {
+    ghost use Rattle.std.specs.Prelude.{◌≡◌, true};
+    ghost use Rattle.penglai_main.specs.Setup.{SetupData, first_setup, is_first_setup};
+
+    ghost Value = { SetupData };
+
+    ghost view = { λ s. first_setup s.page.items s.lines.items };
+
+    ghost invariant = { λ s. is_first_setup s.page.items s.lines.items ≡ true };
+}
