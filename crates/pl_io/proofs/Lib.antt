@@ -1,0 +1,5 @@
+pub mod PutsLemmas
+mod Fronts
+mod HexSteps
+mod Rooms
+mod TwoReads
