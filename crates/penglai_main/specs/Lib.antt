@@ -7,3 +7,4 @@ pub mod Making
 pub mod Running
 pub mod Legal
 pub mod Follows
+pub mod Text

@@ -3,6 +3,7 @@
 
 mod enclave;
 mod history;
+mod printing;
 mod script;
 mod setup;
 

@@ -1,5 +1,5 @@
 -- Texts written one after the other.
-use Rattle.std.proofs.Common.{◌≡◌, ℕ, ◌+◌, ◌<◌, ◌≤◌, true, is_err, List, [], ◌∷◌, ◌++◌, length, take, drop, get_or, append_assoc, Option, Result, Ok, Err, sym, ap, ◌∙◌, subst, arith, length-append}
+use Rattle.std.proofs.Common.{◌≡◌, ℕ, ◌+◌, ◌<◌, ◌≤◌, true, false, is_err, List, [], ◌∷◌, ◌++◌, length, take, drop, get_or, append_assoc, Option, Result, Ok, Err, sym, ap, ◌∙◌, subst, arith, length-append}
 use Rattle.std.proofs.lemmas.List.{take-append-le, take-append-drop, drop_more}
 use Rattle.std.proofs.lemmas.List.Concat.{flat_map-append}
 use Rattle.std.specs.List.{flat_map}
@@ -38,6 +38,22 @@ module _ {T E : Type 0} where
   -- a failure in the middle of a text
   pub puts_cut : (a b : Option (List ℕ)) (f g : ℕ) (t u : List ℕ) (e : E) → Puts {T = T} a b f g t (Err e) → Puts {T = T} a b f g (t ++ u) (Err e)
   puts_cut a b f g t u e p = record { whole = tt; part = prefix_before a b t u p.part; cause = p.cause }
+
+module _ {T E : Type 0} where
+  -- a text and then another, whichever way the other went
+  pub puts_then : (a b c : Option (List ℕ)) (f g h : ℕ) (t u : List ℕ) (x : T) (r : Result T E) → Puts {E = E} a b f g t (Ok x) → Puts b c g h u r → Puts a c f h (t ++ u) r
+  puts_then a b c f g h t u x (Ok y) p q = puts_ok a b c f g h t u x y y p q
+  puts_then a b c f g h t u x (Err e) p q = puts_err a b c f g h t u x e e p q
+
+  -- the first text didn't fail
+  pub puts_second : (a b c : Option (List ℕ)) (f g h : ℕ) (t u : List ℕ) (first r : Result T E) → Puts a b f g t first → is_err first ≡ false → Puts b c g h u r → Puts a c f h (t ++ u) r
+  puts_second a b c f g h t u (Ok x) r p passed q = puts_then a b c f g h t u x r p q
+  puts_second a b c f g h t u (Err d) r p passed q = cc
+
+  -- the first text failed
+  pub puts_first_failed : (a b : Option (List ℕ)) (f g : ℕ) (t u : List ℕ) (e : E) (r : Result T E) → Puts a b f g t r → is_err r ≡ true → Puts {T = T} a b f g (t ++ u) (Err e)
+  puts_first_failed a b f g t u e (Ok y) p failed = cc
+  puts_first_failed a b f g t u e (Err d) p failed = record { whole = tt; part = prefix_before a b t u p.part; cause = record { later = p.cause.later; failed = p.cause.failed } }
 
 module _ {X : Type 0} (text_of : X → List ℕ) where
   whole_text : (xs : List X) (i : ℕ) (d : X) → i < length xs → flat_map text_of xs ≡ (flat_map text_of (take i xs) ++ text_of (get_or xs i d)) ++ flat_map text_of (drop (i + 1) xs)
