@@ -35,8 +35,8 @@ module _ (setup : SetupData) (entries : List Entry) (s : Monitor) (so_far : Exte
   pub extended : Answers setup s actor at line now → Extended setup (entries ++ record { actor = actor; line = at; answer = now } ∷ []) (after_answer s actor line now)
   extended a = record {
     legal = AllAllowed-append setup (opening setup) entries (record { actor = actor; line = at; answer = now } ∷ []) so_far.legal
-    (subst (λ t. Allowed setup t (record { actor = actor; line = at; answer = now }) × Unit {0}) (sym so_far.state) (allowed_here a, tt));
+        (subst (λ t. Allowed setup t (record { actor = actor; line = at; answer = now }) × Unit {0}) (sym so_far.state) (allowed_here a, tt));
     state = state_after-append setup (opening setup) entries (record { actor = actor; line = at; answer = now } ∷ [])
-    ∙ ap (λ t. after setup t (record { actor = actor; line = at; answer = now })) so_far.state
-    ∙ ap (λ l. option_map_or (λ found. after_answer s actor found now) l s) a.script;
+        ∙ ap (λ t. after setup t (record { actor = actor; line = at; answer = now })) so_far.state
+        ∙ ap (λ l. option_map_or (λ found. after_answer s actor found now) l s) a.script;
   }

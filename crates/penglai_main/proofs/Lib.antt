@@ -1,3 +1,10 @@
+pub mod Tests
 pub mod RunLemmas
 pub mod Histories
 pub mod Lines
+pub mod ScriptLemmas
+pub mod Views
+pub mod ViewRules
+pub mod Members
+pub mod FirstRules
+pub mod FirstForm

@@ -22,6 +22,7 @@ use Rattle.penglai_main.specs.Making.{is_free, create_refusal, building, made}
 use Rattle.penglai_main.specs.Running.{MayLeave, is_absent, is_fresh, run_refusal, entered, state_left, left}
 use Rattle.penglai_main.specs.Legal.{AllowedAnswer, after_answer, legal_state}
 use Rattle.penglai_main.specs.Follows.{answered_by_hart_0, IsAtStart, Agrees, Follows, entry_of}
+use Rattle.penglai_main.proofs.Tests.{both_parts}
 use Rattle.penglai_main.proofs.Histories.{Answers, Extended, extended}
 
 -- the progress after an answer to hart 0, whether its line had begun or not
@@ -160,16 +161,12 @@ created_one bytes lines old now entries at so_far here was_free is_fresh_now sta
     record {
       legal = both.legal;
       agrees = subst (λ state. Agrees bytes (legal_state setup ((entries ++ entry_of at answer_is.Begun ∷ []) ++ entry_of at answer_is.Ok ∷ [])) state (flat_of (image_of bytes).pages now) (at + 1)) (sym is_fresh_now)
-      (subst (λ flat. Agrees bytes (legal_state setup ((entries ++ entry_of at answer_is.Begun ∷ []) ++ entry_of at answer_is.Ok ∷ [])) Fresh flat (at + 1)) (sym start)
-      (subst (λ t. Agrees bytes t Fresh (start_of (image_of bytes)) (at + 1)) (sym both.state) agrees));
+          (subst (λ flat. Agrees bytes (legal_state setup ((entries ++ entry_of at answer_is.Begun ∷ []) ++ entry_of at answer_is.Ok ∷ [])) Fresh flat (at + 1)) (sym start)
+          (subst (λ t. Agrees bytes t Fresh (start_of (image_of bytes)) (at + 1)) (sym both.state) agrees));
     }
   where
     differ : Fresh ≡ Free → ⊥
     differ e = cc
-
-both_parts : (a b : Bool) → a && b ≡ true → (a ≡ true) × (b ≡ true)
-both_parts true b e = (refl, e)
-both_parts false b e = cc
 
 not_both : (a b : Bool) → a && (b && false) ≡ true → ⊥
 not_both true true e = cc
@@ -236,5 +233,5 @@ module _ (bytes : List ℕ) (lines : List Line) (old : Enclave) (entries : List 
       record {
         legal = both.legal;
         agrees = subst (λ state. Agrees bytes (legal_state setup ((entries ++ entry_of at answer_is.Begun ∷ []) ++ entry_of at (answer_is.Left count why) ∷ [])) state (flat_of (image_of bytes).pages now) (at + 1)) (sym is_left)
-        (subst (λ t. Agrees bytes t (state_left why) (flat_of (image_of bytes).pages now) (at + 1)) (sym both.state) agrees);
+            (subst (λ t. Agrees bytes t (state_left why) (flat_of (image_of bytes).pages now) (at + 1)) (sym both.state) agrees);
       }

@@ -8,3 +8,6 @@ pub mod Running
 pub mod Legal
 pub mod Follows
 pub mod Text
+pub mod Walk
+pub mod Form
+pub mod Answers

@@ -44,9 +44,9 @@ first_setup bytes lines = record {
 abbrev pub is_first_line : Line → Bool
 is_first_line (Create e image pages) = e.0 == 0 && (image == 0 && is_page_20 pages)
   where
-  is_page_20 : List ℕ → Bool
-  is_page_20 (page ∷ []) = page == 20
-  is_page_20 _ = false
+    is_page_20 : List ℕ → Bool
+    is_page_20 (page ∷ []) = page == 20
+    is_page_20 _ = false
 is_first_line (Run e budget) = e.0 == 0 && nat_le 1 budget
 
 abbrev pub is_first_setup : List ℕ → List Line → Bool

@@ -4,8 +4,10 @@
 mod enclave;
 mod history;
 mod printing;
+mod reading;
 mod script;
 mod setup;
+mod walk;
 
 pub use history::{Answer, Entry, History};
 pub use setup::{ChoiceName, Line, Setup};

@@ -97,11 +97,7 @@ fn put_why<K: Sink>(sink: &mut K, why: &Why) -> Result<(), Failed>
     match *why {
         Why::Ended(code) => put_pieces(
             sink,
-            &[
-                Piece::Text(b"ended "),
-                Piece::Hex(code),
-                Piece::Text(b"\n"),
-            ],
+            &[Piece::Text(b"ended "), Piece::Hex(code), Piece::Text(b"\n")],
         ),
         Why::Budget => put_text(sink, b"budget\n"),
         Why::Waiting => put_text(sink, b"waiting\n"),

@@ -1,15 +1,17 @@
 // The one script, line by line.
-ghost use Rattle.std.specs.Prelude.{◌≡◌, ◌<◌, ◌≤◌, ◌+◌, ℕ, List, [], ◌∷◌, ◌++◌, length};
+ghost use Rattle.std.specs.Prelude.{◌≡◌, ◌<◌, ◌≤◌, ◌+◌, ℕ, List, [], ◌∷◌, ◌++◌, ◌*◌, true, length, IfOk};
 ghost use Rattle.pl_base.specs.declared.number.EncNo.{EncNo};
 ghost use Rattle.rv_alone.specs.Flat.{start_of};
-ghost use Rattle.penglai_main.specs.Setup.{image_of};
+ghost use Rattle.penglai_main.specs.Setup.{image_of, first_setup, is_first_setup};
+ghost use Rattle.penglai_main.specs.Legal.{Legal, AllAnswered};
 ghost use Rattle.penglai_main.specs.Enclave.{flat_of};
-ghost use Rattle.penglai_main.specs.Follows.{AnswersLine, entry_of};
+ghost use Rattle.penglai_main.specs.Follows.{AnswersLine, Follows, entry_of};
 
 use crate::enclave::Enclave;
 use crate::history::{Answer, Entry, History};
-use crate::setup::Line;
-use pl_base::{No, State};
+use crate::setup::{Line, Setup};
+use pl_base::{Memory, No, State};
+use std::alloc::Global;
 
 // Answers a line of hart 0.
 fn answer(history: &mut History, line: u32, answer: Answer)
@@ -58,4 +60,51 @@ fn run(page: &[u8], enclave: &mut Enclave, history: &mut History, at: u32, budge
         State::Free | State::Sealed => answer(history, at, Answer::No(No::NoEnclave)),
         state => answer(history, at, Answer::No(No::WrongState(state))),
     }
+}
+
+// Answers the line at this place.
+fn answer_line(
+    page: &[u8],
+    lines: &[Line],
+    at: usize,
+    enclave: &mut Enclave,
+    history: &mut History,
+)
+    requires at { at < length lines.now }
+    requires form { is_first_setup page.now lines.now ≡ true }
+    requires follows { Follows page.now lines.now enclave.old history.old.entries at }
+    requires room { 2 ≤ history.old.room }
+    ensures follows { Follows page.now lines.now enclave.new history.new.entries (at + 1) }
+    ensures room { history.old.room ≤ history.new.room + 2 }
+{
+    match &lines[at] {
+        Line::Create { .. } => create(enclave, history, at as u32),
+        Line::Run { budget, .. } => run(page, enclave, history, at as u32, *budget),
+    }
+}
+
+// Answers all lines, the first first.
+fn run_script(page: &[u8], lines: &[Line], enclave: &mut Enclave, history: &mut History)
+    requires form { is_first_setup page.now lines.now ≡ true }
+    requires state { enclave.old.state ≡ State.Free }
+    requires empty { history.old.entries ≡ [] }
+    requires room { 2 * length lines.now ≤ history.old.room }
+    ensures legal { Legal (first_setup page.now lines.now) history.new.entries }
+    ensures answered { AllAnswered (first_setup page.now lines.now) history.new.entries }
+{
+    for at in 0..lines.len() {
+        answer_line(page, lines, at, enclave, history);
+    }
+}
+
+/// The history of a run of a setup. All its memory is taken before the first line is answered.
+pub fn run_setup(alloc: Global, setup: &Setup) -> Result<History, Memory>
+    ensures legal { IfOk result (λ history. Legal setup.now history.entries) }
+    ensures answered { IfOk result (λ history. AllAnswered setup.now history.entries) }
+{
+    let (page, lines) = setup.parts();
+    let mut enclave = Enclave::new(alloc)?;
+    let mut history = History::new(alloc, 2 * lines.len())?;
+    run_script(page, lines, &mut enclave, &mut history);
+    Ok(history)
 }
