@@ -11,3 +11,4 @@ pub mod Text
 pub mod Walk
 pub mod Form
 pub mod Answers
+pub mod Top

@@ -7,7 +7,12 @@ mod printing;
 mod reading;
 mod script;
 mod setup;
+mod top;
 mod walk;
 
 pub use history::{Answer, Entry, History};
-pub use setup::{ChoiceName, Line, Setup};
+pub use printing::put_output;
+pub use reading::read_setup;
+pub use script::run_setup;
+pub use setup::{ChoiceName, Line, Setup, SetupFault};
+pub use top::{Status, quick};

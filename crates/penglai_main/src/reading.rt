@@ -20,7 +20,7 @@ use toml::{Table, Value};
 const PAGE_SIZE: usize = 4096;
 
 // The longest text of a setup, in bytes.
-const MOST_TEXT: usize = 16_777_216;
+pub const MOST_TEXT: usize = 16_777_216;
 
 // The most lines of a script.
 const MOST_LINES: usize = 65_536;

@@ -63,13 +63,7 @@ fn run(page: &[u8], enclave: &mut Enclave, history: &mut History, at: u32, budge
 }
 
 // Answers the line at this place.
-fn answer_line(
-    page: &[u8],
-    lines: &[Line],
-    at: usize,
-    enclave: &mut Enclave,
-    history: &mut History,
-)
+fn answer_line(page: &[u8], lines: &[Line], at: usize, enclave: &mut Enclave, history: &mut History)
     requires at { at < length lines.now }
     requires form { is_first_setup page.now lines.now ≡ true }
     requires follows { Follows page.now lines.now enclave.old history.old.entries at }

@@ -56,6 +56,14 @@ impl Setup {
         Setup { page, lines }
     }
 
+    /// The number of harts.
+    pub fn harts(&self) -> u8
+        ensures { result ≡ self.now.harts }
+    {
+        let _page = &self.page;
+        1
+    }
+
     // The page of the image, and the lines of hart 0.
     pub(crate) fn parts(&self) -> (&[u8], &[Line])
         ensures setup { self.now ≡ first_setup result.0.now result.1.now }
