@@ -8,3 +8,4 @@ pub mod ViewRules
 pub mod Members
 pub mod FirstRules
 pub mod FirstForm
+pub mod WordLemmas
