@@ -16,3 +16,6 @@ pub use reading::read_setup;
 pub use script::run_setup;
 pub use setup::{ChoiceName, Line, Setup, SetupFault};
 pub use top::{Status, quick};
+
+#[cfg(test)]
+mod tests;
