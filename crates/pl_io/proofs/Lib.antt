@@ -2,4 +2,5 @@ pub mod PutsLemmas
 mod Fronts
 mod HexSteps
 mod Rooms
+mod RoundTrips
 mod TwoReads

@@ -1,8 +1,8 @@
 // Numbers and bytes as texts into a sink.
-ghost use Rattle.std.specs.Prelude.{◌≡◌, ◌+◌, ◌<◌, ◌≤◌, length, take, drop, replicate, decimal};
+ghost use Rattle.std.specs.Prelude.{◌≡◌, ◌+◌, ◌<◌, ◌≤◌, length, take, drop, replicate, decimal, Some};
 ghost use Rattle.std.specs.Char.{digit_char};
 ghost use Rattle.pl_io.specs.Puts.{Puts};
-ghost use Rattle.pl_io.specs.Numbers.{hex_digits, hex_text, short_text, byte_text, bytes_text};
+ghost use Rattle.pl_io.specs.Numbers.{hex_digits, hex_text, short_text, byte_text, bytes_text, hex_value, dec_value};
 
 use crate::outside::Sink;
 use itoa::Buffer;
@@ -43,15 +43,19 @@ fn hex_digits(value: u64) -> HexDigits
 }
 
 /// Writes a number in hexadecimal with 16 digits.
+#[tactic(auto, using(crate::proofs::RoundTrips::hex_reads_back))]
 pub fn put_hex<K: Sink>(sink: &mut K, value: u64) -> Result<(), Failed>
-    ensures { Puts (K.written sink.old) (K.written sink.new) (K.faults sink.old) (K.faults sink.new) (hex_text value) result }
+    ensures text { Puts (K.written sink.old) (K.written sink.new) (K.faults sink.old) (K.faults sink.new) (hex_text value) result }
+    ensures read_back { hex_value (hex_text value) ≡ Some value }
 {
     sink.put(&hex_digits(value).text)
 }
 
 /// Writes a number in hexadecimal without leading zeros, and 0 as `0`.
+#[tactic(auto, using(crate::proofs::RoundTrips::short_reads_back))]
 pub fn put_short<K: Sink>(sink: &mut K, value: u64) -> Result<(), Failed>
-    ensures { Puts (K.written sink.old) (K.written sink.new) (K.faults sink.old) (K.faults sink.new) (short_text value) result }
+    ensures text { Puts (K.written sink.old) (K.written sink.new) (K.faults sink.old) (K.faults sink.new) (short_text value) result }
+    ensures read_back { hex_value (short_text value) ≡ Some value }
 {
     if value == 0 {
         return sink.put(b"0");
@@ -61,8 +65,10 @@ pub fn put_short<K: Sink>(sink: &mut K, value: u64) -> Result<(), Failed>
 }
 
 /// Writes a number in decimal.
+#[tactic(auto, using(crate::proofs::RoundTrips::dec_reads_back))]
 pub fn put_dec<K: Sink>(sink: &mut K, value: u64) -> Result<(), Failed>
-    ensures { Puts (K.written sink.old) (K.written sink.new) (K.faults sink.old) (K.faults sink.new) (decimal value) result }
+    ensures text { Puts (K.written sink.old) (K.written sink.new) (K.faults sink.old) (K.faults sink.new) (decimal value) result }
+    ensures read_back { dec_value (decimal value) ≡ Some value }
 {
     sink.put(Buffer::new().format(value).as_bytes())
 }
