@@ -1,0 +1,13 @@
+//! Physical memory protection: which accesses sixteen rules let through (RISC-V Privileged Architecture, PMP).
+#![tactic(auto)]
+
+mod decision;
+mod pmp;
+mod rule;
+mod span;
+
+pub use pmp::Pmp;
+pub use rule::Rule;
+
+#[cfg(test)]
+mod tests;
