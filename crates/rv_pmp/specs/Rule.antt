@@ -1,5 +1,5 @@
 -- One protection rule: a configuration byte and an address register (RISC-V Privileged Architecture, Physical Memory Protection CSRs).
-use Rattle.std.specs.Prelude.{ℕ, ◌+◌, ◌*◌, ◌/◌, ◌%◌, ◌^◌, Bool, nat_lt, ◌==◌, ◌&&◌, ◌||◌, not, if◌then◌else◌}
+use Rattle.std.specs.Prelude.{ℕ, ◌+◌, ◌*◌, ◌/◌, ◌%◌, ◌^◌, ◌-◌, ◌<◌, ◌≡◌, Bool, nat_lt, ◌==◌, ◌&&◌, ◌||◌, not, if◌then◌else◌}
 use Rattle.std.specs.Int.{trailing_ones, w64}
 use Rattle.pl_base.specs.Perms.{grants}
 use Rattle.pl_base.specs.declared.access.Kind.TheVariants.{Fetch, Load, Store}
@@ -31,13 +31,16 @@ is_valid rule =
     && (not (grants (perms_of rule) Store) || grants (perms_of rule) Load)
     && nat_lt rule.addr (2 ^ 54)
 
--- The naturally aligned range of a register in which k ones trail: it has 2 ^ (k + 3) bytes, and is the one of these ranges
--- whose number the bits above the ones and their zero are.
+-- the number-th range of a size, counted from 0
+abbrev pub nth_span : ℕ → ℕ → Span
+nth_span number size = span (number * size) (number * size + size)
+
+-- The naturally aligned range of a register in which k ones trail: of the ranges of 2 ^ (k + 3) bytes the one whose number stands
+-- above the ones and their zero.
 abbrev pub aligned_span : ℕ → Span
 aligned_span addr =
     let k = trailing_ones w64 addr in
-    let number = addr / 2 ^ (k + 1) in
-    span (number * 2 ^ (k + 3)) (number * 2 ^ (k + 3) + 2 ^ (k + 3))
+    nth_span (addr / 2 ^ (k + 1)) (2 ^ (k + 3))
 
 -- the range of a register that is read in one of the four ways, after a register `before`
 abbrev pub span_by : Matching → ℕ → ℕ → Span
@@ -49,3 +52,9 @@ span_by Napot before addr = aligned_span addr
 -- the addresses that a rule matches, after a rule whose register is `before`
 abbrev pub span_of : ℕ → Rule → Span
 span_of before rule = span_by (matching_of rule) before rule.addr
+
+-- the bits of a number, then a zero, then k ones, name the range of 2 ^ (k + 3) bytes that has this number
+abbrev pub NamesRange : Type 0
+NamesRange =
+    (number k : ℕ) → number * 2 ^ (k + 1) + (2 ^ k - 1) < 2 ^ 54
+    → aligned_span (number * 2 ^ (k + 1) + (2 ^ k - 1)) ≡ nth_span number (2 ^ (k + 3))

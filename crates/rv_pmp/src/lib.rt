@@ -2,10 +2,12 @@
 #![tactic(auto)]
 
 mod decision;
+mod law;
 mod pmp;
 mod rule;
 mod span;
 
+pub use law::registers_name_ranges;
 pub use pmp::Pmp;
 pub use rule::Rule;
 

@@ -1,4 +1,4 @@
-use crate::{Pmp, Rule};
+use crate::{Pmp, Rule, registers_name_ranges};
 use pl_base::Kind::{Fetch, Load, Store};
 use pl_base::{Kind, Pa};
 use std::process::Abort;
@@ -14,6 +14,10 @@ const TOR: u8 = 1 << 3;
 const NA4: u8 = 2 << 3;
 
 const NAPOT: u8 = 3 << 3;
+
+const ALL: u8 = R | W | X;
+
+const OFF: (u8, u64) = (0, 0);
 
 /// The register that holds bits 55:2 of an address.
 const fn at(address: u64) -> u64 {
@@ -40,7 +44,7 @@ fn a_rule_is_valid_by_its_bits(rt: HostRuntime) {
         (R, 0, true),
         (W, 0, false),
         (X | W, 0, false),
-        (R | W | X | NAPOT, (1 << 54) - 1, true),
+        (ALL | NAPOT, (1 << 54) - 1, true),
         (R, 1 << 54, false),
         (1 << 5, 0, false),
         (1 << 6, 0, false),
@@ -52,48 +56,47 @@ fn a_rule_is_valid_by_its_bits(rt: HostRuntime) {
 
 #[test]
 fn the_first_match_decides(rt: HostRuntime) {
-    const OFF: (u8, u64) = (0, 0);
-    let m: u64 = 0x8000_0000;
-    let tor = [(0, at(m)), (TOR | R, at(m + 0x1000)), OFF, OFF];
+    let base: u64 = 0x8000_0000;
+    let tor = [(0, at(base)), (TOR | R, at(base + 0x1000)), OFF, OFF];
     let upside_down = [
-        (0, at(m + 8)),
-        (TOR | R, at(m)),
-        (TOR | R, at(m + 0x1000)),
+        (0, at(base + 8)),
+        (TOR | R, at(base)),
+        (TOR | R, at(base + 0x1000)),
         OFF,
     ];
-    let na4 = [(NA4 | R, at(m)), OFF, OFF, OFF];
-    let eight = [(NAPOT | R, at(m)), OFF, OFF, OFF];
-    let sixteen = [(NAPOT | R, at(m) | 1), OFF, OFF, OFF];
+    let na4 = [(NA4 | R, at(base)), OFF, OFF, OFF];
+    let eight = [(NAPOT | R, at(base)), OFF, OFF, OFF];
+    let sixteen = [(NAPOT | R, at(base) | 1), OFF, OFF, OFF];
     let page = [(NAPOT | R, 0x2000_55ff), OFF, OFF, OFF];
-    let whole = [(NAPOT | R | W | X, (1 << 54) - 1), OFF, OFF, OFF];
-    let halves = [(NA4 | R, at(m)), (NA4 | R, at(m + 4)), OFF, OFF];
-    let hole = [(NA4 | X, at(m)), (NAPOT | R, at(m)), OFF, OFF];
+    let whole = [(NAPOT | ALL, (1 << 54) - 1), OFF, OFF, OFF];
+    let halves = [(NA4 | R, at(base)), (NA4 | R, at(base + 4)), OFF, OFF];
+    let hole = [(NA4 | X, at(base)), (NAPOT | R, at(base)), OFF, OFF];
     let cases: [([(u8, u64); 4], u64, u8, Kind, bool); 40] = [
-        ([OFF, OFF, OFF, OFF], m, 8, Load, false),
-        ([(R | W | X, at(m)), OFF, OFF, OFF], m, 1, Load, false),
-        (tor, m, 8, Load, true),
-        (tor, m - 1, 1, Load, false),
-        (tor, m - 8, 8, Load, false),
-        (tor, m + 0xff8, 8, Load, true),
-        (tor, m + 0xfff, 1, Load, true),
-        (tor, m + 0x1000, 1, Load, false),
-        (tor, m, 8, Store, false),
-        (tor, m, 4, Fetch, false),
+        ([OFF, OFF, OFF, OFF], base, 8, Load, false),
+        ([(ALL, at(base)), OFF, OFF, OFF], base, 1, Load, false),
+        (tor, base, 8, Load, true),
+        (tor, base - 1, 1, Load, false),
+        (tor, base - 8, 8, Load, false),
+        (tor, base + 0xff8, 8, Load, true),
+        (tor, base + 0xfff, 1, Load, true),
+        (tor, base + 0x1000, 1, Load, false),
+        (tor, base, 8, Store, false),
+        (tor, base, 4, Fetch, false),
         ([(TOR | R, at(8)), OFF, OFF, OFF], 0, 8, Load, true),
         ([(TOR | R, at(8)), OFF, OFF, OFF], 8, 1, Load, false),
-        (upside_down, m, 8, Load, true),
-        (upside_down, m + 8, 8, Load, true),
-        (na4, m, 4, Load, true),
-        (na4, m + 3, 1, Load, true),
-        (na4, m + 4, 1, Load, false),
-        (na4, m - 1, 1, Load, false),
-        (na4, m, 8, Load, false),
-        (eight, m, 8, Load, true),
-        (eight, m + 7, 1, Load, true),
-        (eight, m + 8, 1, Load, false),
-        (eight, m - 1, 1, Load, false),
-        (sixteen, m + 8, 8, Load, true),
-        (sixteen, m + 16, 1, Load, false),
+        (upside_down, base, 8, Load, true),
+        (upside_down, base + 8, 8, Load, true),
+        (na4, base, 4, Load, true),
+        (na4, base + 3, 1, Load, true),
+        (na4, base + 4, 1, Load, false),
+        (na4, base - 1, 1, Load, false),
+        (na4, base, 8, Load, false),
+        (eight, base, 8, Load, true),
+        (eight, base + 7, 1, Load, true),
+        (eight, base + 8, 1, Load, false),
+        (eight, base - 1, 1, Load, false),
+        (sixteen, base + 8, 8, Load, true),
+        (sixteen, base + 16, 1, Load, false),
         (page, 0x8001_5000, 8, Load, true),
         (page, 0x8001_5fff, 1, Load, true),
         (page, 0x8001_4fff, 1, Load, false),
@@ -102,13 +105,13 @@ fn the_first_match_decides(rt: HostRuntime) {
         (whole, (1 << 57) - 8, 8, Fetch, true),
         (whole, 1 << 57, 8, Load, false),
         (whole, u64::MAX - 7, 8, Load, false),
-        (halves, m, 4, Load, true),
-        (halves, m + 4, 4, Load, true),
-        (halves, m, 8, Load, false),
-        (hole, m, 4, Load, false),
-        (hole, m, 4, Fetch, true),
-        (hole, m + 4, 4, Load, true),
-        (hole, m + 4, 4, Fetch, false),
+        (halves, base, 4, Load, true),
+        (halves, base + 4, 4, Load, true),
+        (halves, base, 8, Load, false),
+        (hole, base, 4, Load, false),
+        (hole, base, 4, Fetch, true),
+        (hole, base + 4, 4, Load, true),
+        (hole, base + 4, 4, Fetch, false),
     ];
     for (i, (rules, pa, width, kind, allowed)) in cases.into_iter().enumerate() {
         let pmp = with_rules(&rt, rules);
@@ -118,8 +121,6 @@ fn the_first_match_decides(rt: HostRuntime) {
 
 #[test]
 fn a_page_is_allowed_piece_by_piece(rt: HostRuntime) {
-    const OFF: (u8, u64) = (0, 0);
-    const ALL: u8 = R | W | X;
     let p: u64 = 0x8001_5000;
     let page = (NAPOT | ALL, 0x2000_55ff);
     let cases: [([(u8, u64); 4], u32, bool); 14] = [
@@ -168,4 +169,5 @@ fn a_page_is_allowed_piece_by_piece(rt: HostRuntime) {
         let pmp = with_rules(&rt, rules);
         assert_eq!(rt; pmp.page_allowed(page), allowed, "case {i}");
     }
+    registers_name_ranges();
 }
