@@ -42,7 +42,9 @@ impl Pmp {
         Pmp { rules }
     }
 
-    /// Whether an access of `width` bytes at `pa` is let through. Accesses have 1, 2, 4 or 8 bytes and are aligned.
+    /// Whether an access of `width` bytes at `pa` is let through: by the first rule that matches one of its bytes.
+    ///
+    /// An access of a hart has 1, 2, 4 or 8 bytes and is aligned; others are answered by the same rule.
     pub fn allows(&self, pa: Pa, width: u8, kind: Kind) -> bool
         ensures { result ≡ permits self.now pa.0 width kind }
     {

@@ -8,8 +8,9 @@ use Rattle.rv_sv39.specs.Word.{is_user, is_accessed, is_dirty, ppn_of, perms_of,
 use Rattle.rv_sv39.specs.declared.walk.Walked.{Walked}
 use Rattle.rv_sv39.specs.declared.walk.Walked.TheVariants.{Next, Leaf, PageFault}
 
--- The rules in their order: a word that is formed; a pointer, above the lowest level and with U, A and D clear; a leaf that is
--- aligned, reached by the mode, permits the kind and is marked.
+-- The rules in their order: (1) the word is formed; (2) without R and X it is a pointer, which stands above level 0 and has U, A and
+-- D clear; else it is a leaf, which (3) is aligned, (4) is reached by the mode, (5) permits the kind and (6) is marked, and then
+-- (7) gives its page and permissions.
 abbrev pub step : ℕ → ℕ → Vpn → Kind → Mode → Walked
 step level word vpn kind mode =
     if not (is_formed word) then PageFault

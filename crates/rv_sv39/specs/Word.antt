@@ -10,6 +10,7 @@ use Rattle.pl_base.specs.declared.address.Ppn.{Ppn}
 use Rattle.pl_base.specs.declared.address.Vpn.{Vpn}
 use Rattle.pl_base.specs.declared.perms.Perms.{Perms}
 
+-- a bit of the word is set
 abbrev pub has : ℕ → ℕ → Bool
 has word bit = bit_at word bit == 1
 
@@ -34,11 +35,11 @@ is_accessed word = has word 6
 abbrev pub is_dirty : ℕ → Bool
 is_dirty word = has word 7
 
--- bits 53:10
+-- the page number, bits 53:10
 abbrev pub ppn_of : ℕ → ℕ
 ppn_of word = word / 2 ^ 10 % 2 ^ 44
 
--- X, W and R
+-- what the word permits: bits 3:1, X, W and R
 abbrev pub perms_of : ℕ → Perms
 perms_of word = record { 0 = word / 2 % 8 }
 

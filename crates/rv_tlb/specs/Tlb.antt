@@ -20,7 +20,7 @@ Differ a b = IsFalse (is_of a.space a.vpn b)
 abbrev pub IsSmall : TlbEntry → Type 0
 IsSmall entry = entry.ppn.0 < 2 ^ 44
 
--- what a TLB holds: at most sixteen entries, no two of them of one space and page
+-- what a TLB holds: at most sixteen entries, no two of one space and page, each with a physical page number of 44 bits
 pub record IsTlb (entries : List TlbEntry) : Type 0 where
   pub room : length entries ≤ 16
   pub apart : AllPairs Differ entries
