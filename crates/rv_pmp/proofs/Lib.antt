@@ -1,0 +1,4 @@
+pub mod AlignedSpan
+pub mod Deciding
+pub mod Pieces
+pub mod Spans

@@ -1,0 +1,4 @@
+pub mod Decision
+pub mod Pmp
+pub mod Rule
+pub mod Span

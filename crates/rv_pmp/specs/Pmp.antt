@@ -1,0 +1,40 @@
+-- The decision of a list of rules (RISC-V Privileged Architecture, Physical Memory Protection, Priority and Matching Logic).
+use Rattle.std.specs.Prelude.{ℕ, ◌+◌, ◌*◌, ◌%◌, ◌<◌, ◌≤◌, ◌≡◌, Bool, false, IsTrue, Contains, ◌&&◌, if◌then◌else◌, List, [], ◌∷◌}
+use Rattle.pl_base.specs.Perms.{grants}
+use Rattle.pl_base.specs.declared.access.Kind.{Kind}
+use Rattle.rv_pmp.specs.Rule.{perms_of, span_of}
+use Rattle.rv_pmp.specs.Span.{span, overlaps, covers}
+use Rattle.rv_pmp.specs.declared.rule.Rule.{Rule}
+use Rattle.rv_pmp.specs.declared.span.Span.{Span}
+
+-- The first rule that matches a byte of the access decides: it has to match every byte, and to have the bit of the kind.
+-- Where none matches, the access is refused. `before` is the register of the rule before these.
+abbrev pub permits_after : ℕ → List Rule → Span → Kind → Bool
+permits_after before [] access kind = false
+permits_after before (rule ∷ rules) access kind =
+    if overlaps (span_of before rule) access
+    then covers (span_of before rule) access && grants (perms_of rule) kind
+    else permits_after rule.addr rules access kind
+
+-- whether the rules let an access of `width` bytes at `pa` through
+abbrev pub permits : List Rule → ℕ → ℕ → Kind → Bool
+permits rules pa width kind = permits_after 0 rules (span pa (pa + width)) kind
+
+-- where a page of off-chip memory begins
+abbrev pub page_address : ℕ → ℕ
+page_address page = 0x80000000 + 4096 * page
+
+-- every aligned eight-byte piece of the page is let through for all three kinds
+abbrev pub PageAllowed : List Rule → ℕ → Type 0
+PageAllowed rules page =
+    (piece : ℕ) → piece < 512 → (kind : Kind) → IsTrue (permits rules (page_address page + 8 * piece) 8 kind)
+
+-- an access has 1, 2, 4 or 8 bytes
+abbrev pub IsWidth : ℕ → Type 0
+IsWidth width = Contains (1 ∷ 2 ∷ 4 ∷ 8 ∷ []) width
+
+-- every aligned access inside the page is let through
+abbrev pub AccessesAllowed : List Rule → ℕ → Type 0
+AccessesAllowed rules page =
+    (pa width : ℕ) (kind : Kind) → IsWidth width → pa % width ≡ 0
+    → page_address page ≤ pa → pa < page_address page + 4096 → IsTrue (permits rules pa width kind)

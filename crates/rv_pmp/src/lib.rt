@@ -1,0 +1,15 @@
+//! Physical memory protection: which accesses sixteen rules let through (RISC-V Privileged Architecture, PMP).
+#![tactic(auto)]
+
+mod decision;
+mod law;
+mod pmp;
+mod rule;
+mod span;
+
+pub use law::registers_name_ranges;
+pub use pmp::Pmp;
+pub use rule::Rule;
+
+#[cfg(test)]
+mod tests;

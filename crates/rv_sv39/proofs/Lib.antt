@@ -1,0 +1,2 @@
+pub mod CanonicalBits
+pub mod Walking

@@ -1,0 +1,12 @@
+use Rattle.rv_sv39.proofs.Walking.{steps_walk, walks_once, walk_is, walk_from}
+use Rattle.rv_sv39.proofs.law.steps_give_walks.Goals as goal
+
+pub returns-clause-walk : goal.returns-clause-walk
+returns-clause-walk c = λ words root vpn mode kind. steps_walk words vpn mode kind 2 root.0
+
+pub returns-clause-once : goal.returns-clause-once
+returns-clause-once c = λ words root vpn mode kind a b. walks_once words vpn mode kind 2 root.0 a b
+
+pub returns-clause-onward : goal.returns-clause-onward
+returns-clause-onward c = λ words vpn mode kind level table answer.
+    (walk_is words vpn mode kind level table answer, walk_from words vpn mode kind level table answer)

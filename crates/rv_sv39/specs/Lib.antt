@@ -1,0 +1,4 @@
+pub mod Address
+pub mod Step
+pub mod Walk
+pub mod Word

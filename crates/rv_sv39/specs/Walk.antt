@@ -1,0 +1,73 @@
+-- The page walk as a relation (RISC-V Privileged Architecture, Virtual Address Translation Process, Sv39: three levels).
+use Rattle.std.specs.Prelude.{ℕ, zero, suc, ◌+◌, ◌*◌, ◌/◌, ◌%◌, ◌^◌, ◌≡◌, ◌↔◌, Bool, ◌==◌, IsTrue, IsFalse, ◌&&◌, ◌||◌, not, Option, Some, None}
+use Rattle.pl_base.specs.Perms.{grants}
+use Rattle.pl_base.specs.declared.access.Kind.{Kind}
+use Rattle.pl_base.specs.declared.access.Mode.{Mode}
+use Rattle.pl_base.specs.declared.address.Ppn.{Ppn}
+use Rattle.pl_base.specs.declared.address.Vpn.{Vpn}
+use Rattle.pl_base.specs.declared.perms.Perms.{Perms}
+use Rattle.rv_sv39.specs.Step.{step}
+use Rattle.rv_sv39.specs.Word.{is_readable, is_executable, is_user, is_accessed, is_dirty, ppn_of, perms_of, is_formed, names_table, is_reached, is_aligned, is_marked, page_of}
+use Rattle.rv_sv39.specs.declared.walk.Walked.{Walked}
+use Rattle.rv_sv39.specs.declared.walk.Walked.TheVariants.{Next, Leaf, PageFault}
+
+-- the word of a table above the lowest level points to another one: U, A and D are clear
+abbrev pub is_pointer : ℕ → ℕ → Bool
+is_pointer level word =
+    is_formed word && names_table word && not (is_user word) && not (is_accessed word) && not (is_dirty word) && not (level == 0)
+
+-- the word is a leaf at its level that serves the access
+abbrev pub is_leaf : ℕ → ℕ → Kind → Mode → Bool
+is_leaf level word kind mode =
+    is_formed word && (is_readable word || is_executable word) && is_aligned level word && is_reached word mode
+    && grants (perms_of word) kind && is_marked word kind
+
+-- a physical page and what may be done with it, or none
+abbrev pub Answer : Type 0
+Answer = Option (Ppn × Perms)
+
+-- the word that a page number selects in a table at a level, `words` being the words of memory by their addresses
+abbrev pub entry : (ℕ → ℕ) → Vpn → ℕ → ℕ → ℕ
+entry words vpn level table = words (4096 * table + 8 * (vpn.0 / 2 ^ (9 * level) % 512))
+
+-- From a table at a level on: a leaf answers, a pointer leads to a table one level lower, and any other word gives none.
+pub data WalksFrom (words : ℕ → ℕ) (vpn : Vpn) (mode : Mode) (kind : Kind) : ℕ → ℕ → Answer → Type 0 where
+  ends : (level table : ℕ) → IsTrue (is_leaf level (entry words vpn level table) kind mode)
+      → WalksFrom words vpn mode kind level table (Some (page_of level (entry words vpn level table) vpn, perms_of (entry words vpn level table)))
+  leads : (level table : ℕ) (answer : Answer) → IsTrue (is_pointer (suc level) (entry words vpn (suc level) table))
+      → WalksFrom words vpn mode kind level (ppn_of (entry words vpn (suc level) table)) answer
+      → WalksFrom words vpn mode kind (suc level) table answer
+  breaks : (level table : ℕ) → IsFalse (is_pointer level (entry words vpn level table))
+      → IsFalse (is_leaf level (entry words vpn level table) kind mode) → WalksFrom words vpn mode kind level table None
+
+-- the walk of a page number from a root table: a chain of at most three words
+abbrev pub Walks : (ℕ → ℕ) → Ppn → Vpn → Mode → Kind → Answer → Type 0
+Walks words root vpn mode kind answer = WalksFrom words vpn mode kind 2 root.0 answer
+
+-- what a step says, where a pointer goes on by `follow`
+abbrev pub answer_of : Walked → (Ppn → Answer) → Answer
+answer_of (Next ppn) follow = follow ppn
+answer_of (Leaf ppn perms) follow = Some (ppn, perms)
+answer_of PageFault follow = None
+
+-- steps from a table at a level on
+abbrev pub steps_from : (ℕ → ℕ) → Vpn → Mode → Kind → ℕ → ℕ → Answer
+steps_from words vpn mode kind zero table = answer_of (step 0 (entry words vpn 0 table) vpn kind mode) (λ next. None)
+steps_from words vpn mode kind (suc level) table =
+    answer_of (step (suc level) (entry words vpn (suc level) table) vpn kind mode) (λ next. steps_from words vpn mode kind level next.0)
+
+-- steps from level 2 give the walk
+abbrev pub StepsWalk : Type 0
+StepsWalk = (words : ℕ → ℕ) (root : Ppn) (vpn : Vpn) (mode : Mode) (kind : Kind) → Walks words root vpn mode kind (steps_from words vpn mode kind 2 root.0)
+
+-- a walk has one answer
+abbrev pub WalksOnce : Type 0
+WalksOnce =
+    (words : ℕ → ℕ) (root : Ppn) (vpn : Vpn) (mode : Mode) (kind : Kind) (a b : Answer)
+    → Walks words root vpn mode kind a → Walks words root vpn mode kind b → a ≡ b
+
+-- the walk from a table at any level is what the steps from there give
+abbrev pub WalksBySteps : Type 0
+WalksBySteps =
+    (words : ℕ → ℕ) (vpn : Vpn) (mode : Mode) (kind : Kind) (level table : ℕ) (answer : Answer)
+    → (WalksFrom words vpn mode kind level table answer ↔ (answer ≡ steps_from words vpn mode kind level table))

@@ -1,0 +1,27 @@
+-- A hart's translations as a list, the oldest first.
+use Rattle.std.specs.Prelude.{◌^◌, ◌<◌, ◌≤◌, Bool, IsFalse, All, AllPairs, ◌==◌, ◌&&◌, List, length}
+use Rattle.pl_base.specs.declared.address.Vpn.{Vpn}
+use Rattle.pl_base.specs.declared.number.Space.{Space}
+use Rattle.rv_tlb.specs.declared.tlb.TlbEntry.{TlbEntry}
+
+-- the entry is one of the space
+abbrev pub is_in : Space → TlbEntry → Bool
+is_in space entry = entry.space.0 == space.0
+
+-- the entry is the one of a page of the space
+abbrev pub is_of : Space → Vpn → TlbEntry → Bool
+is_of space vpn entry = is_in space entry && entry.vpn.0 == vpn.0
+
+-- two entries are not of one space and page
+abbrev pub Differ : TlbEntry → TlbEntry → Type 0
+Differ a b = IsFalse (is_of a.space a.vpn b)
+
+-- the physical page number has 44 bits
+abbrev pub IsSmall : TlbEntry → Type 0
+IsSmall entry = entry.ppn.0 < 2 ^ 44
+
+-- what a TLB holds: at most sixteen entries, no two of one space and page, each with a physical page number of 44 bits
+pub record IsTlb (entries : List TlbEntry) : Type 0 where
+  pub room : length entries ≤ 16
+  pub apart : AllPairs Differ entries
+  pub small : All IsSmall entries
