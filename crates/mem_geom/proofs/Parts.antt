@@ -1,0 +1,40 @@
+-- What a write leaves of a list of bytes.
+use Rattle.std.proofs.Common.{◌≡◌, ℕ, ◌+◌, ◌-◌, ◌≤◌, List, ◌++◌, length, take, drop, arith, ap, ◌∙◌, sym, refl, length-append, length-drop}
+use Rattle.std.proofs.lemmas.List.{length-take-le, take_at, drop_at, take-append-le, drop-append-le, drop-drop, drop-take, take-take}
+use Rattle.mem_geom.specs.Bytes.{bytes_at, with_bytes}
+
+module _ (all : List ℕ) (at : ℕ) (bytes : List ℕ) (fits : at + length bytes ≤ length all) where
+  front : length (take at all) ≡ at
+  front = length-take-le at all (omega arith)
+
+  -- as many bytes as before
+  pub length-with_bytes : length (with_bytes all at bytes) ≡ length all
+  length-with_bytes = simp (length-append, length-drop, front) (omega arith)
+
+  -- what was written
+  pub bytes_at-with_bytes : bytes_at (with_bytes all at bytes) at (length bytes) ≡ bytes
+  bytes_at-with_bytes =
+      ap (take (length bytes)) (drop_at (take at all) (bytes ++ drop (at + length bytes) all) at front)
+      ∙ take_at bytes (drop (at + length bytes) all) (length bytes) refl
+
+  -- what stands before it
+  pub bytes_at-with_bytes_before : (from n : ℕ) → from + n ≤ at → bytes_at (with_bytes all at bytes) from n ≡ bytes_at all from n
+  bytes_at-with_bytes_before from n before =
+      let rest : List ℕ = bytes ++ drop (at + length bytes) all in
+      let kept : take at all ≡ take (from + (at - from)) all = ap (λ (m : ℕ). take m all) (omega arith) in
+      ap (take n) (drop-append-le from (take at all) rest (omega (arith, front)))
+      ∙ take-append-le n (drop from (take at all)) rest (simp (length-drop, front) (omega arith))
+      ∙ ap (λ (xs : List ℕ). take n (drop from xs)) kept
+      ∙ ap (take n) (drop-take from (at - from) all)
+      ∙ take-take n (at - from) (drop from all) (omega arith)
+
+  -- what stands after it
+  pub bytes_at-with_bytes_after : (from n : ℕ) → at + length bytes ≤ from → bytes_at (with_bytes all at bytes) from n ≡ bytes_at all from n
+  bytes_at-with_bytes_after from n after =
+      let end : ℕ = at + length bytes in
+      let rest : List ℕ = bytes ++ drop end all in
+      let far : from ≡ (at + length bytes) + (from - end) = omega arith in
+      let past : drop (at + length bytes) (with_bytes all at bytes) ≡ drop end all =
+      sym (drop-drop (length bytes) at (with_bytes all at bytes)) ∙ ap (drop (length bytes)) (drop_at (take at all) rest at front) ∙ drop_at bytes (drop end all) (length bytes) refl in
+      ap (take n) (ap (λ (k : ℕ). drop k (with_bytes all at bytes)) far
+      ∙ sym (drop-drop (from - end) end (with_bytes all at bytes)) ∙ ap (drop (from - end)) past ∙ drop-drop (from - end) end all ∙ ap (λ (k : ℕ). drop k all) (sym far))

@@ -1,0 +1,18 @@
+//! Where each place of off-chip memory stands, and the off-chip bytes themselves.
+//!
+//! Off-chip memory begins at 0x80000000 and holds, without a gap, 64 pages for each zone, then 585 nodes of 256 bytes
+//! for each zone, then the nine nodes of the root table.
+#![tactic(auto)]
+
+mod dram;
+mod laws;
+mod layout;
+
+pub use dram::Dram;
+pub use laws::{
+    bytes_have_one_place, nodes_follow_one_another, ranges_are_apart, writes_change_one_place,
+};
+pub use layout::{FIRST_ADDRESS, place_range};
+
+#[cfg(test)]
+mod tests;

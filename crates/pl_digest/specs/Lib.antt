@@ -1,0 +1,3 @@
+pub mod DigestBytes
+pub mod Digester
+pub mod Trees

@@ -1,0 +1,41 @@
+-- Hash trees over 64 leaves, eight under each node (a Merkle tree; R. C. Merkle, US patent 4,309,569), for any digest
+-- function.
+use Rattle.std.specs.Prelude.{ℕ, ◌*◌, List, map, take, drop}
+use Rattle.std.specs.List.{concat, range_with_len}
+
+-- piece number k, where each has n elements
+abbrev pub piece : {A : Type 0} → ℕ → ℕ → List A → List A
+piece n k xs = take n (drop (n * k) xs)
+
+-- the first count pieces of n elements
+unfoldable pub pieces : {A : Type 0} → ℕ → ℕ → List A → List (List A)
+pieces n count xs = map (λ k. piece n k xs) (range_with_len 0 count)
+
+-- a page's 64 blocks of 64 bytes
+abbrev pub blocks : List ℕ → List (List ℕ)
+blocks page = pieces 64 64 page
+
+-- the eight nodes over 64 digests: each is eight of them, one after another
+abbrev pub lower_nodes : List (List ℕ) → List (List ℕ)
+lower_nodes digests = map concat (pieces 8 8 digests)
+
+module _ (digest_of : List ℕ → List ℕ) where
+  -- the node over those eight: their digests, one after another
+  abbrev pub upper_node : List (List ℕ) → List ℕ
+  upper_node digests = concat (map digest_of (lower_nodes digests))
+
+  -- the root over 64 digests
+  unfoldable pub tree_root : List (List ℕ) → List ℕ
+  tree_root digests = digest_of (upper_node digests)
+
+  -- the root of a page: of the digests of its blocks
+  abbrev pub page_root : List ℕ → List ℕ
+  page_root page = tree_root (map digest_of (blocks page))
+
+  -- the root of a zone: of the roots of its 64 pages
+  abbrev pub zone_root : List (List ℕ) → List ℕ
+  zone_root pages = tree_root (map page_root pages)
+
+  -- the root of the root table: of its 64 entries
+  abbrev pub table_root : List (List ℕ) → List ℕ
+  table_root entries = tree_root entries
