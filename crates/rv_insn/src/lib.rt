@@ -1,8 +1,17 @@
-//! The instructions of RV64IM and their encoding (RISC-V Unprivileged ISA).
+//! The instructions of RV64I with the M extension: their words decoded and encoded (RISC-V Unprivileged ISA).
+//!
+//! `specs/Table.antt` lists each instruction with its encoding. A word is illegal where it stands in no row.
 #![tactic(auto)]
 
 mod decoding;
+mod encoding;
+mod fields;
 mod insn;
+mod word;
 
 pub use decoding::decode;
-pub use insn::{AluOp, Insn};
+pub use encoding::encode;
+pub use insn::{AluOp, Cond, Insn};
+
+#[cfg(test)]
+mod tests;
