@@ -5,7 +5,7 @@ use Rattle.std.specs.Str.{bytes_eq}
 use Rattle.std.proofs.lemmas.Option.{option_and_then_some, same_Some}
 use Rattle.toml.specs.Data.{Data, Members, get_member, as_str}
 use Rattle.pl_io.specs.Numbers.{dec_value}
-use Rattle.penglai_main.proofs.Tests.{both_parts}
+use Rattle.penglai_main.proofs.Parts.{both_parts}
 use Rattle.penglai_main.specs.declared.setup.Line.{Line}
 use Rattle.penglai_main.specs.declared.setup.Line.TheVariants.{Create, Run}
 use Rattle.penglai_main.specs.Setup.{is_first_line, is_first_setup}

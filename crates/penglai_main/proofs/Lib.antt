@@ -1,4 +1,4 @@
-pub mod Tests
+pub mod Parts
 pub mod RunLemmas
 pub mod Histories
 pub mod Lines
@@ -8,4 +8,3 @@ pub mod ViewRules
 pub mod Members
 pub mod FirstRules
 pub mod FirstForm
-pub mod WordLemmas

@@ -22,7 +22,7 @@ use Rattle.penglai_main.specs.Making.{is_free, create_refusal, building, made}
 use Rattle.penglai_main.specs.Running.{MayLeave, is_absent, is_fresh, run_refusal, entered, state_left, left}
 use Rattle.penglai_main.specs.Legal.{AllowedAnswer, after_answer, legal_state}
 use Rattle.penglai_main.specs.Follows.{answered_by_hart_0, IsAtStart, Agrees, Follows, entry_of}
-use Rattle.penglai_main.proofs.Tests.{both_parts}
+use Rattle.penglai_main.proofs.Parts.{both_parts}
 use Rattle.penglai_main.proofs.Histories.{Answers, Extended, extended}
 
 -- the progress after an answer to hart 0, whether its line had begun or not

@@ -3,7 +3,7 @@ use Rattle.std.proofs.Common.{◌≡◌, ◌≢◌, ℕ, zero, suc, ◌+◌, ◌
 use Rattle.std.specs.List.{list_all}
 use Rattle.std.proofs.lemmas.Bool.Decides.{nat_tests}
 use Rattle.std.proofs.lemmas.Option.{slice_get-get_or, same_Some}
-use Rattle.penglai_main.proofs.Tests.{both_parts}
+use Rattle.penglai_main.proofs.Parts.{both_parts}
 use Rattle.pl_base.specs.declared.state.State.{State}
 use Rattle.pl_base.specs.declared.state.State.TheVariants.{Free, Fresh}
 use Rattle.penglai_main.specs.declared.enclave.Enclave.{Enclave}

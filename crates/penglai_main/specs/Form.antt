@@ -2,8 +2,6 @@
 use Rattle.std.specs.Prelude.{◌≡◌, ⊤, ℕ, zero, suc, ◌-◌, ◌*◌, ◌&&◌, ◌||◌, ◌==◌, is_some, nat_le, nat_lt, Bool, true, false, List, [], ◌∷◌, ◌++◌, length, take, drop, replicate, codes, Option, Some, None, option_map, option_and_then, if◌then◌else◌, nat_eq, Result, Ok, Err}
 use Rattle.std.specs.List.{list_all, starts_with}
 use Rattle.std.specs.Str.{bytes_eq}
-use Rattle.byteorder.specs.Endian.{little_number}
-use Rattle.rv_insn.specs.Table.{instruction_of}
 use Rattle.hex.specs.Hex.{decode_of}
 use Rattle.toml.specs.Data.{Data, Members, get_member, as_str}
 use Rattle.pl_io.specs.Numbers.{is_hex_digit, dec_value}
@@ -33,36 +31,14 @@ some_of None rule = Err (rule, 0)
 abbrev pub page_of_bytes : List ℕ → List ℕ
 page_of_bytes bytes = take 4096 bytes ++ replicate (4096 - length bytes) 0
 
--- a test passes each number below n
-unfoldable pub all_below : ℕ → (ℕ → Bool) → Bool
-all_below zero test = true
-all_below (suc n) test = test n && all_below n test
-
--- an instruction that is built, or the illegal word 0
-abbrev pub is_built_word : ℕ → Bool
-is_built_word word = word == 0 || is_some (instruction_of word)
-
--- the word of 32 bits at this place of a page, little-endian, is built
-abbrev pub has_built_word : List ℕ → ℕ → Bool
-has_built_word page k = is_built_word (little_number 4 (drop (4 * k) page))
-
--- each of the page's 1,024 words is built
-unfoldable pub is_built_page : List ℕ → Bool
-is_built_page page = all_below 1024 (has_built_word page)
-
-abbrev pub built : List ℕ → Option (List ℕ)
-built page = if is_built_page page then Some page else None
-
 -- what a decoder gave
 abbrev pub decoded : {E : Type 0} → Result (List ℕ) E → Option (List ℕ)
 decoded (Ok bytes) = Some bytes
 decoded (Err e) = None
 
--- the page of at most 8,192 digits `0-9a-f`, two a byte, whose words are built
+-- the page of at most 8,192 digits `0-9a-f`, two a byte
 abbrev pub page_of_text : List ℕ → Option (List ℕ)
-page_of_text text =
-    if nat_le (length text) 8192 && list_all is_hex_digit text then option_and_then built (option_map page_of_bytes (decoded (decode_of text)))
-    else None
+page_of_text text = if nat_le (length text) 8192 && list_all is_hex_digit text then option_map page_of_bytes (decoded (decode_of text)) else None
 
 -- the page of its table
 abbrev pub page_of : Members → Option (List ℕ)

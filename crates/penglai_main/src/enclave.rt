@@ -1,13 +1,14 @@
 // An enclave of one page: its registers, and the words that it sent out.
-ghost use Rattle.std.specs.Prelude.{◌≡◌, ◌<◌, ◌≤◌, ◌%◌, ℕ, List, [], ◌∷◌, length, IfOk, Some, vec_len, vec_capacity};
-ghost use Rattle.rv_alone.specs.Alone.{one, calls, sends};
-ghost use Rattle.rv_alone.specs.Flat.{Page, fetched, start_of, start_registers};
+ghost use Rattle.std.specs.Prelude.{◌≡◌, ◌<◌, ◌≤◌, ◌%◌, ◌↔◌, IsTrue, ℕ, List, [], ◌∷◌, length, IfOk, Some, vec_len, vec_capacity};
+ghost use Rattle.rv_insn.specs.Table.{is_width};
+ghost use Rattle.rv_alone.specs.Alone.{one, calls, loads, sends};
+ghost use Rattle.rv_alone.specs.Flat.{Page, fetched, read_from, start_of, start_registers};
 ghost use Rattle.penglai_main.specs.Setup.{code_page, image_of};
 ghost use Rattle.penglai_main.specs.Running.{state_left};
 
 use byteorder::{ByteOrder, LittleEndian};
 use pl_base::{State, Why};
-use rv_alone::{Act, Context, next, passed};
+use rv_alone::{Act, Context, loaded, next, passed};
 use std::alloc::{AllocError, Global};
 
 // Where the pages of an enclave begin, which is where the one image is entered.
@@ -39,17 +40,38 @@ pub enum Stepped {
     Trapped { cause: u8, value: u64 },
 }
 
+// Whether an address is one of the one page.
+fn is_in_page(address: u64) -> bool
+    ensures { IsTrue result ↔ ((65536 ≤ address) × (address < 69632)) }
+{
+    FIRST_ADDRESS <= address && address - FIRST_ADDRESS < PAGE_SIZE
+}
+
 // The word at an address of the page.
 fn fetch(page: &[u8], address: u64) -> Option<u32>
     requires page { length page.now ≡ 4096 }
     requires aligned { address % 4 ≡ 0 }
     ensures { result ≡ fetched (code_page page.now ∷ []) address }
 {
-    if address < FIRST_ADDRESS || address - FIRST_ADDRESS >= PAGE_SIZE {
+    if !is_in_page(address) {
         return None;
     }
     let offset = (address % PAGE_SIZE) as usize;
     Some(LittleEndian::read_u32(&page[offset..]))
+}
+
+// The number of `width` bytes at an address of the page, little-endian.
+fn read_from(page: &[u8], address: u64, width: u8) -> Option<u64>
+    requires page { length page.now ≡ 4096 }
+    requires aligned { address % width ≡ 0 }
+    requires width { IsTrue (is_width width) }
+    ensures { result ≡ read_from (code_page page.now ∷ []) address width }
+{
+    if !is_in_page(address) {
+        return None;
+    }
+    let offset = (address % PAGE_SIZE) as usize;
+    Some(LittleEndian::read_uint(&page[offset..], usize::from(width)))
 }
 
 // The registers at the start of an image of one page.
@@ -120,9 +142,38 @@ impl Enclave {
                 self.context = context;
                 Stepped::Retired
             }
+            Act::Load {
+                address,
+                width,
+                signed,
+                rd,
+            } => self.load(page, address, width, signed, rd),
+            // The one page has no W.
+            Act::Store { address, .. } => Stepped::Trapped {
+                cause: 15,
+                value: address,
+            },
             Act::Call { number, value } => self.call(number, value),
             Act::Trap { cause, value } => Stepped::Trapped { cause, value },
         }
+    }
+
+    // A load of `width` bytes into `rd`.
+    fn load(&mut self, page: &[u8], address: u64, width: u8, signed: bool, rd: u8) -> Stepped
+        requires page { length page.now ≡ 4096 }
+        requires aligned { address % width ≡ 0 }
+        requires width { IsTrue (is_width width) }
+        requires register { rd < 32 }
+        ensures { loads (flat_of (code_page page.now ∷ []) self.old) address width signed rd ≡ outcome_of result (flat_of (code_page page.now ∷ []) self.new) }
+    {
+        let Some(raw) = read_from(page, address, width) else {
+            return Stepped::Trapped {
+                cause: 13,
+                value: address,
+            };
+        };
+        self.context = loaded(&self.context, rd, width, signed, raw);
+        Stepped::Retired
     }
 
     // An ECALL. RECV waits, since no word is sent to it.

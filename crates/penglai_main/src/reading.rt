@@ -4,17 +4,15 @@ ghost use Rattle.pl_io.specs.Numbers.{is_hex_digit};
 ghost use Rattle.std.specs.List.{list_all};
 ghost use Rattle.toml.specs.Data.{as_str};
 ghost use Rattle.toml.specs.View.{view, table_view};
-ghost use Rattle.penglai_main.specs.Form.{has_built_word, is_built_page, built, page_of_bytes, page_of_text, page_of, page_of_image, line_of, line_of_budget, all_lines, script_of_hart, keys, has_first_numbers, image_page, hart_lines, form_of, some_of, setup_of};
+ghost use Rattle.penglai_main.specs.Form.{page_of_bytes, page_of_text, page_of, page_of_image, line_of, line_of_budget, all_lines, script_of_hart, keys, has_first_numbers, image_page, hart_lines, form_of, some_of, setup_of};
 ghost use Rattle.penglai_main.specs.Answers.{Answers};
 ghost use Rattle.penglai_main.specs.Walk.{has_only};
 
 use crate::setup::{Line, Setup, SetupFault};
 use crate::walk::{has_only, is_one, is_text, items_of_array, member, only_table};
-use byteorder::{ByteOrder, LittleEndian};
 use hex::FromHexError;
 use pl_base::{EncNo, Listed, Memory};
 use pl_io::read_dec;
-use rv_insn::decode;
 use std::alloc::Global;
 use toml::{Table, Value};
 
@@ -48,40 +46,7 @@ fn page_of_bytes(mut bytes: Vec<u8>) -> Result<Vec<u8>, Memory>
     Ok(bytes)
 }
 
-// Whether the word of 32 bits at this place of a page is an instruction that is built, or 0.
-fn has_built_word(page: &[u8], at: usize) -> bool
-    requires page { length page.now ≡ 4096 }
-    requires within { at < 1024 }
-    ensures { result ≡ has_built_word page.now at }
-{
-    let word = LittleEndian::read_u32(&page[4 * at..]);
-    word == 0 || decode(word).is_some()
-}
-
-// Whether each word of the page is built.
-fn is_built_page(page: &[u8]) -> bool
-    requires { length page.now ≡ 4096 }
-    ensures { result ≡ is_built_page page.now }
-{
-    let mut rest = PAGE_SIZE / 4;
-    while rest > 0 {
-        rest -= 1;
-        if !has_built_word(page, rest) {
-            return false;
-        }
-    }
-    true
-}
-
-fn built(page: Vec<u8>) -> Option<Vec<u8>>
-    requires { length page.items ≡ 4096 }
-    ensures page { option_map (λ v. v.items) result ≡ built page.items }
-    ensures size { IfSome result (λ v. length v.items ≡ 4096) }
-{
-    is_built_page(&page).then_some(page)
-}
-
-// The page of at most 8,192 digits, two a byte, whose words are built.
+// The page of at most 8,192 digits, two a byte.
 fn page_of_text(alloc: Global, text: &[u8]) -> Result<Option<Vec<u8>>, Memory>
     ensures page { IfOk result (λ found. option_map (λ v. v.items) found ≡ page_of_text text.now) }
     ensures size { IfOk result (λ found. IfSome found (λ v. length v.items ≡ 4096)) }
@@ -90,7 +55,7 @@ fn page_of_text(alloc: Global, text: &[u8]) -> Result<Option<Vec<u8>>, Memory>
         return Ok(None);
     }
     match hex::decode(alloc, text) {
-        Ok(bytes) => Ok(built(page_of_bytes(bytes)?)),
+        Ok(bytes) => Ok(Some(page_of_bytes(bytes)?)),
         Err(FromHexError::OutOfMemory) => Err(Memory),
         Err(_) => Ok(None),
     }

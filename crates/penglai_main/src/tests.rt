@@ -109,6 +109,64 @@ fn prints_what_the_lines_are_answered(rt: HostRuntime) -> Result<(), Fail> {
 }
 
 #[test]
+fn each_cause_of_a_trap_is_printed(rt: HostRuntime) -> Result<(), Fail> {
+    let alloc = rt.alloc();
+    for (bytes, want) in [
+        // jal x0, 2
+        ("6f002000", "left 0 trapped 0 0000000000010002"),
+        // A word of ones.
+        ("ffffffff", "left 0 trapped 2 00000000ffffffff"),
+        // ebreak
+        ("73001000", "left 0 trapped 3 0000000000010000"),
+        // addi x17, x0, 1; ld x6, 1(x0)
+        ("9308100003331000", "left 1 trapped 4 0000000000000001"),
+        // sd x0, 1(x0)
+        ("a3300000", "left 0 trapped 6 0000000000000001"),
+        // addi x17, x0, 4; ecall
+        ("9308400073000000", "left 1 trapped 8 0000000000000004"),
+        // jal x0, 4096, past the one page
+        ("6f100000", "left 1 trapped 12 0000000000011000"),
+        // ld x6, 0(x0)
+        ("03330000", "left 0 trapped 13 0000000000000000"),
+        // sd x0, -8(x2), into the page, which has no W
+        ("233c01fe", "left 0 trapped 15 0000000000010ff8"),
+    ] {
+        let text = setup_text(alloc, bytes, "\"create 0 0 20\", \"run 0 10\"")?;
+        let (status, written) = solo(text.as_bytes()).outcome(alloc)?;
+        let line = format!(in alloc; "h0 0 begun\nh0 0 ok\nh0 1 begun\nh0 1 {want}\nend done\n")?;
+        assert_eq!(rt; status, Status::Done, "{want}");
+        assert_eq!(rt; written.as_slice(), line.as_bytes(), "{want}");
+    }
+    Ok(())
+}
+
+#[test]
+fn loads_and_loops_run(rt: HostRuntime) -> Result<(), Fail> {
+    let alloc = rt.alloc();
+    for (bytes, want) in [
+        // auipc x5, 0; lw x10, 0(x5); addi x17, x0, 1; ecall: its own first word.
+        (
+            "9702000003a502009308100073000000",
+            "left 4 ended 0000000000000297",
+        ),
+        // addi x17, x0, 3; ecall; jal x0, -4: SEND until there is no room.
+        ("93083000730000006ff0dfff", "left 8193 out-full"),
+        // addi x10, x0, -7; addi x11, x0, 2; div x10, x10, x11; addi x17, x0, 1; ecall
+        (
+            "130590ff930520003345b5029308100073000000",
+            "left 5 ended fffffffffffffffd",
+        ),
+    ] {
+        let text = setup_text(alloc, bytes, "\"create 0 0 20\", \"run 0 100000\"")?;
+        let (status, written) = solo(text.as_bytes()).outcome(alloc)?;
+        let line = format!(in alloc; "h0 0 begun\nh0 0 ok\nh0 1 begun\nh0 1 {want}\nend done\n")?;
+        assert_eq!(rt; status, Status::Done, "{want}");
+        assert_eq!(rt; written.as_slice(), line.as_bytes(), "{want}");
+    }
+    Ok(())
+}
+
+#[test]
 fn refuses_other_setups(rt: HostRuntime) -> Result<(), Fail> {
     let alloc = rt.alloc();
     let good = setup_text(alloc, EXIT, "\"create 0 0 20\"")?;

@@ -3,4 +3,4 @@
 
 mod step;
 
-pub use step::{Act, Context, next, passed};
+pub use step::{Act, Context, loaded, next, passed};

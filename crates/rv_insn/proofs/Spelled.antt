@@ -1,5 +1,5 @@
 -- What the table says of the words of each instruction: the rows, one after another.
-use Rattle.std.proofs.Common.{◌≡◌, ℕ, zero, suc, ◌+◌, ◌*◌, ◌<◌, ◌%◌, ◌^◌, Bool, true, false, cond, eqb, ◌&&◌, List, [], ◌∷◌, Some, w32, of_z, bit_or, refl, sym, ◌∙◌, subst, arith, lit<}
+use Rattle.std.proofs.Common.{◌≡◌, ℕ, zero, suc, ◌+◌, ◌*◌, ◌<◌, ◌%◌, ◌^◌, Bool, true, false, cond, eqb, ◌&&◌, List, [], ◌∷◌, Option, Some, None, IfSome, w32, of_z, bit_or, refl, sym, ◌∙◌, subst, arith, lit<}
 use Rattle.std.specs.List.{AllByRecursion, Contains}
 use Rattle.std.proofs.lemmas.Bool.{and_parts, eqb-true}
 use Rattle.std.proofs.lemmas.Nat.{or_shifted}
@@ -11,10 +11,10 @@ use Rattle.rv_insn.specs.declared.insn.Cond.TheVariants.{Beq, Bne, Blt, Bge, Blt
 use Rattle.rv_insn.specs.declared.insn.AluOp.TheVariants.{Add, Sub, Sll, Slt, Sltu, Xor, Srl, Sra, Or, And, Mul, Mulh, Mulhsu, Mulhu, Div, Divu, Rem, Remu, Addw, Subw, Sllw, Srlw, Sraw, Mulw, Divw, Divuw, Remw, Remuw}
 use Rattle.rv_insn.specs.declared.encoding.OpCode.{OpCode}
 use Rattle.rv_insn.specs.Word.{bits, opcode, rd, funct3, rs1, rs2, funct7, i_immediate, s_immediate, b_immediate, u_immediate, j_immediate}
-use Rattle.rv_insn.specs.Table.{Row, fits, table, u_type, j_type, i_type, b_type, s_type, r_type, shift_type, shift_w_type, fence_type, whole_word, instruction_of}
+use Rattle.rv_insn.specs.Table.{Row, fits, table, u_type, j_type, i_type, b_type, s_type, r_type, shift_type, shift_w_type, fence_type, whole_word, instruction_of, is_width, IsEven, IsWellFormed}
 use Rattle.rv_insn.specs.Codes.{IsBranchCode, IsLoadCode, IsStoreCode, IsRegisterCode, IsImmediateCode, IsOpCode}
 use Rattle.rv_insn.proofs.Apart.{some_row}
-use Rattle.rv_insn.proofs.Immediates.{i_bits}
+use Rattle.rv_insn.proofs.Immediates.{i_bits, b_even, j_even}
 
 -- ---- the codes of names
 
@@ -74,8 +74,8 @@ Spelled (Auipc d imm) word = (opcode word ≡ 0x17) × (d ≡ rd word) × (imm �
 Spelled (Jal d offset) word = (opcode word ≡ 0x6f) × (d ≡ rd word) × (offset ≡ j_immediate word)
 Spelled (Jalr d a imm) word = (opcode word ≡ 0x67) × (funct3 word ≡ 0) × (d ≡ rd word) × (a ≡ rs1 word) × (imm ≡ i_immediate word)
 Spelled (Branch c a b offset) word = (opcode word ≡ 0x63) × (funct3 word ≡ branch_code c) × (a ≡ rs1 word) × (b ≡ rs2 word) × (offset ≡ b_immediate word)
-Spelled (Load w s d a imm) word = (opcode word ≡ 0x03) × (funct3 word ≡ load_code w s) × (d ≡ rd word) × (a ≡ rs1 word) × (imm ≡ i_immediate word)
-Spelled (Store w a b imm) word = (opcode word ≡ 0x23) × (funct3 word ≡ store_code w) × (a ≡ rs1 word) × (b ≡ rs2 word) × (imm ≡ s_immediate word)
+Spelled (Load w s d a imm) word = (opcode word ≡ 0x03) × (funct3 word ≡ load_code w s) × (d ≡ rd word) × (a ≡ rs1 word) × (imm ≡ i_immediate word) × (is_width w ≡ true)
+Spelled (Store w a b imm) word = (opcode word ≡ 0x23) × (funct3 word ≡ store_code w) × (a ≡ rs1 word) × (b ≡ rs2 word) × (imm ≡ s_immediate word) × (is_width w ≡ true)
 Spelled (OpImm op d a imm) word = IsImmediateCode (op_code op) imm word × (d ≡ rd word) × (a ≡ rs1 word)
 Spelled (Op op d a b) word = IsRegisterCode (op_code op) word × (d ≡ rd word) × (a ≡ rs1 word) × (b ≡ rs2 word)
 Spelled (Fence high d) word = (opcode word ≡ 0x0f) × (funct3 word ≡ 0) × (high ≡ bits word 31 15) × (d ≡ rd word)
@@ -112,15 +112,15 @@ branch_row c word small f =
     let first = code_of word 0x63 (eqb (funct3 word) (branch_code c) && true) f in
     (first.0, (field_of (funct3 word) (branch_code c) true first.1).0, refl, refl, refl)
 
-load_row : (w : ℕ) (s : Bool) → RowHolds (i_type 0x03 (load_code w s) (Load w s))
-load_row w s word small f =
+load_row : (w : ℕ) (s : Bool) → is_width w ≡ true → RowHolds (i_type 0x03 (load_code w s) (Load w s))
+load_row w s width word small f =
     let first = code_of word 0x03 (eqb (funct3 word) (load_code w s) && true) f in
-    (first.0, (field_of (funct3 word) (load_code w s) true first.1).0, refl, refl, refl)
+    (first.0, (field_of (funct3 word) (load_code w s) true first.1).0, refl, refl, refl, width)
 
-store_row : (w : ℕ) → RowHolds (s_type 0x23 (store_code w) (Store w))
-store_row w word small f =
+store_row : (w : ℕ) → is_width w ≡ true → RowHolds (s_type 0x23 (store_code w) (Store w))
+store_row w width word small f =
     let first = code_of word 0x23 (eqb (funct3 word) (store_code w) && true) f in
-    (first.0, (field_of (funct3 word) (store_code w) true first.1).0, refl, refl, refl)
+    (first.0, (field_of (funct3 word) (store_code w) true first.1).0, refl, refl, refl, width)
 
 register_row : (op : AluOp) → RowHolds (r_type (cond (op_code op).word 0x3b 0x33) (op_code op).funct7 (op_code op).funct3 (Op op))
 register_row op word small f =
@@ -178,194 +178,23 @@ shift_w_row op narrow fits word small f =
 
 -- ---- the table, row by row
 
+infixr 5 ◌⨾◌
+abbrev ◌⨾◌ : {A B : Type 0} → A → B → A × B
+first ⨾ others = (first, others)
+
 rows_hold : AllByRecursion RowHolds table
-rows_hold = (
-  lui_row,
-  (
-    auipc_row,
-    (
-      jal_row,
-      (
-        jalr_row,
-        (
-          branch_row Beq,
-          (
-            branch_row Bne,
-            (
-              branch_row Blt,
-              (
-                branch_row Bge,
-                (
-                  branch_row Bltu,
-                  (
-                    branch_row Bgeu,
-                    (
-                      load_row 1 true,
-                      (
-                        load_row 2 true,
-                        (
-                          load_row 4 true,
-                          (
-                            load_row 8 true,
-                            (
-                              load_row 1 false,
-                              (
-                                load_row 2 false,
-                                (
-                                  load_row 4 false,
-                                  (
-                                    store_row 1,
-                                    (
-                                      store_row 2,
-                                      (
-                                        store_row 4,
-                                        (
-                                          store_row 8,
-                                          (
-                                            plain_row Add refl,
-                                            (
-                                              plain_row Slt refl,
-                                              (
-                                                plain_row Sltu refl,
-                                                (
-                                                  plain_row Xor refl,
-                                                  (
-                                                    plain_row Or refl,
-                                                    (
-                                                      plain_row And refl,
-                                                      (
-                                                        shift_row Sll 0 refl refl (lit< tt),
-                                                        (
-                                                          shift_row Srl 0 refl refl (lit< tt),
-                                                          (
-                                                            shift_row Sra 0x10 refl refl (lit< tt),
-                                                            (
-                                                              plain_row Addw refl,
-                                                              (
-                                                                shift_w_row Sllw refl (lit< tt),
-                                                                (
-                                                                  shift_w_row Srlw refl (lit< tt),
-                                                                  (
-                                                                    shift_w_row Sraw refl (lit< tt),
-                                                                    (
-                                                                      register_row Add,
-                                                                      (
-                                                                        register_row Sub,
-                                                                        (
-                                                                          register_row Sll,
-                                                                          (
-                                                                            register_row Slt,
-                                                                            (
-                                                                              register_row Sltu,
-                                                                              (
-                                                                                register_row Xor,
-                                                                                (
-                                                                                  register_row Srl,
-                                                                                  (
-                                                                                    register_row Sra,
-                                                                                    (
-                                                                                      register_row Or,
-                                                                                      (
-                                                                                        register_row And,
-                                                                                        (
-                                                                                          register_row Mul,
-                                                                                          (
-                                                                                            register_row Mulh,
-                                                                                            (
-                                                                                              register_row Mulhsu,
-                                                                                              (
-                                                                                                register_row Mulhu,
-                                                                                                (
-                                                                                                  register_row Div,
-                                                                                                  (
-                                                                                                    register_row Divu,
-                                                                                                    (
-                                                                                                      register_row Rem,
-                                                                                                      (
-                                                                                                        register_row Remu,
-                                                                                                        (
-                                                                                                          register_row Addw,
-                                                                                                          (
-                                                                                                            register_row Subw,
-                                                                                                            (
-                                                                                                              register_row Sllw,
-                                                                                                              (
-                                                                                                                register_row Srlw,
-                                                                                                                (
-                                                                                                                  register_row Sraw,
-                                                                                                                  (
-                                                                                                                    register_row Mulw,
-                                                                                                                    (
-                                                                                                                      register_row Divw,
-                                                                                                                      (
-                                                                                                                        register_row Divuw,
-                                                                                                                        (
-                                                                                                                          register_row Remw,
-                                                                                                                          (
-                                                                                                                            register_row Remuw,
-                                                                                                                            (fence_row, (ecall_row, (ebreak_row, tt))),
-                                                                                                                          ),
-                                                                                                                        ),
-                                                                                                                      ),
-                                                                                                                    ),
-                                                                                                                  ),
-                                                                                                                ),
-                                                                                                              ),
-                                                                                                            ),
-                                                                                                          ),
-                                                                                                        ),
-                                                                                                      ),
-                                                                                                    ),
-                                                                                                  ),
-                                                                                                ),
-                                                                                              ),
-                                                                                            ),
-                                                                                          ),
-                                                                                        ),
-                                                                                      ),
-                                                                                    ),
-                                                                                  ),
-                                                                                ),
-                                                                              ),
-                                                                            ),
-                                                                          ),
-                                                                        ),
-                                                                      ),
-                                                                    ),
-                                                                  ),
-                                                                ),
-                                                              ),
-                                                            ),
-                                                          ),
-                                                        ),
-                                                      ),
-                                                    ),
-                                                  ),
-                                                ),
-                                              ),
-                                            ),
-                                          ),
-                                        ),
-                                      ),
-                                    ),
-                                  ),
-                                ),
-                              ),
-                            ),
-                          ),
-                        ),
-                      ),
-                    ),
-                  ),
-                ),
-              ),
-            ),
-          ),
-        ),
-      ),
-    ),
-  ),
-)
+rows_hold =
+    lui_row ⨾ auipc_row ⨾ jal_row ⨾ jalr_row
+    ⨾ branch_row Beq ⨾ branch_row Bne ⨾ branch_row Blt ⨾ branch_row Bge ⨾ branch_row Bltu ⨾ branch_row Bgeu
+    ⨾ load_row 1 true refl ⨾ load_row 2 true refl ⨾ load_row 4 true refl ⨾ load_row 8 true refl ⨾ load_row 1 false refl ⨾ load_row 2 false refl ⨾ load_row 4 false refl
+    ⨾ store_row 1 refl ⨾ store_row 2 refl ⨾ store_row 4 refl ⨾ store_row 8 refl
+    ⨾ plain_row Add refl ⨾ plain_row Slt refl ⨾ plain_row Sltu refl ⨾ plain_row Xor refl ⨾ plain_row Or refl ⨾ plain_row And refl
+    ⨾ shift_row Sll 0 refl refl (lit< tt) ⨾ shift_row Srl 0 refl refl (lit< tt) ⨾ shift_row Sra 0x10 refl refl (lit< tt)
+    ⨾ plain_row Addw refl ⨾ shift_w_row Sllw refl (lit< tt) ⨾ shift_w_row Srlw refl (lit< tt) ⨾ shift_w_row Sraw refl (lit< tt)
+    ⨾ register_row Add ⨾ register_row Sub ⨾ register_row Sll ⨾ register_row Slt ⨾ register_row Sltu ⨾ register_row Xor ⨾ register_row Srl ⨾ register_row Sra ⨾ register_row Or ⨾ register_row And
+    ⨾ register_row Mul ⨾ register_row Mulh ⨾ register_row Mulhsu ⨾ register_row Mulhu ⨾ register_row Div ⨾ register_row Divu ⨾ register_row Rem ⨾ register_row Remu
+    ⨾ register_row Addw ⨾ register_row Subw ⨾ register_row Sllw ⨾ register_row Srlw ⨾ register_row Sraw ⨾ register_row Mulw ⨾ register_row Divw ⨾ register_row Divuw ⨾ register_row Remw ⨾ register_row Remuw
+    ⨾ fence_row ⨾ ecall_row ⨾ ebreak_row ⨾ tt
 
 holds_at : {X : Type 0} (P : X → Type 0) (xs : List X) (x : X) → AllByRecursion P xs → Contains xs x → P x
 holds_at P [] x all member = absurd (omega (arith, member.1))
@@ -393,3 +222,23 @@ op_codes op c e = subst (λ x. IsOpCode op x) (sym e) (record {
   register = λ word d a b small is. (spelled word (Op op d a b) small is).0;
   immediate = λ word d a imm small is. (spelled word (OpImm op d a imm) small is).0;
 })
+
+-- ---- registers, widths and offsets
+
+well_formed : (word : ℕ) (insn : Insn) → Spelled insn word → IsWellFormed insn
+well_formed word (Lui d imm) s = omega (arith, s.1)
+well_formed word (Auipc d imm) s = omega (arith, s.1)
+well_formed word (Jal d offset) s = (omega (arith, s.1), rw s.2 (j_even word))
+well_formed word (Jalr d a imm) s = (omega (arith, s.2), omega (arith, s.3))
+well_formed word (Branch c a b offset) s = (omega (arith, s.2), omega (arith, s.3), rw s.4 (b_even word))
+well_formed word (Load w t d a imm) s = (omega (arith, s.2), omega (arith, s.3), s.5)
+well_formed word (Store w a b imm) s = (omega (arith, s.2), omega (arith, s.3), s.5)
+well_formed word (OpImm op d a imm) s = (omega (arith, s.1), omega (arith, s.2))
+well_formed word (Op op d a b) s = (omega (arith, s.1), omega (arith, s.2), omega (arith, s.3))
+well_formed word (Fence high d) s = omega (arith, s.3)
+well_formed word Ecall s = tt
+well_formed word Ebreak s = tt
+
+pub all_well_formed : (word : ℕ) (r : Option Insn) → word < 2 ^ 32 → r ≡ instruction_of word → IfSome r IsWellFormed
+all_well_formed word None small e = tt
+all_well_formed word (Some insn) small e = well_formed word insn (spelled word insn small (sym e))

@@ -1,5 +1,5 @@
 -- The instructions, each with its encoding (RISC-V Unprivileged ISA, "RV32/64G Instruction Set Listings": RV32I, RV64I, RV32M, RV64M).
-use Rattle.std.specs.Prelude.{ℕ, ◌<◌, Some, ◌/◌, ◌%◌, ◌^◌, Bool, true, false, ◌&&◌, ◌==◌, List, [], ◌∷◌, Option, find, IsTrue, Contains, ◌≡◌, ℤ, pos}
+use Rattle.std.specs.Prelude.{ℕ, ◌<◌, Some, ◌/◌, ◌%◌, ◌^◌, Bool, true, false, ◌&&◌, ◌==◌, List, [], ◌∷◌, Option, find, IsTrue, Contains, ⊤, ◌||◌, unsigned_abs, ◌≡◌, ℤ, pos}
 use Rattle.std.specs.List.{list_all}
 use Rattle.std.specs.Option.{option_map}
 use Rattle.rv_insn.specs.Word.{bits, opcode, rd, rs1, rs2, i_immediate, s_immediate, b_immediate, u_immediate, j_immediate}
@@ -187,3 +187,27 @@ instruction_of word = option_map (λ row. row.insn word) (find (λ row. fits row
 -- some word of 32 bits is this instruction
 abbrev pub IsValid : Insn → Type 0
 IsValid insn = (word : ℕ) × (word < 2 ^ 32) × (instruction_of word ≡ Some insn)
+
+-- ---- what an instruction of the table has
+
+-- one, two, four or eight bytes
+abbrev pub is_width : ℕ → Bool
+is_width width = width == 1 || (width == 2 || (width == 4 || width == 8))
+
+abbrev pub IsEven : ℤ → Type 0
+IsEven z = unsigned_abs z % 2 ≡ 0
+
+-- registers below 32, widths of an access, even offsets
+abbrev pub IsWellFormed : Insn → Type 0
+IsWellFormed (Lui d imm) = d < 32
+IsWellFormed (Auipc d imm) = d < 32
+IsWellFormed (Jal d offset) = (d < 32) × IsEven offset
+IsWellFormed (Jalr d a imm) = (d < 32) × (a < 32)
+IsWellFormed (Branch c a b offset) = (a < 32) × (b < 32) × IsEven offset
+IsWellFormed (Load width s d a imm) = (d < 32) × (a < 32) × IsTrue (is_width width)
+IsWellFormed (Store width a b imm) = (a < 32) × (b < 32) × IsTrue (is_width width)
+IsWellFormed (OpImm op d a imm) = (d < 32) × (a < 32)
+IsWellFormed (Op op d a b) = (d < 32) × (a < 32) × (b < 32)
+IsWellFormed (Fence high d) = d < 32
+IsWellFormed Ecall = ⊤
+IsWellFormed Ebreak = ⊤

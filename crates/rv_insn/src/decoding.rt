@@ -1,7 +1,7 @@
-ghost use Rattle.std.specs.Prelude.{◌≡◌, ◌↔◌};
+ghost use Rattle.std.specs.Prelude.{◌≡◌, ◌↔◌, IfSome};
 ghost use Rattle.std.specs.Option.{option_map};
 ghost use Rattle.rv_insn.specs.Word.{opcode, rd, rs1, rs2, i_immediate, b_immediate};
-ghost use Rattle.rv_insn.specs.Table.{instruction_of, Decodes};
+ghost use Rattle.rv_insn.specs.Table.{instruction_of, Decodes, IsWellFormed};
 ghost use Rattle.rv_insn.specs.declared.insn.Insn.{Insn};
 
 use crate::insn::{AluOp, Cond, Insn};
@@ -15,6 +15,8 @@ pub fn decode(word: u32) -> Option<Insn>
     ensures value { result ≡ instruction_of word }
     // It is the instruction that a row of the table makes of the word, and no row makes another one.
     ensures rows { (insn : Insn) → (result ≡ Some insn) ↔ Decodes word insn }
+    // Its registers are below 32, the width of an access is 1, 2, 4 or 8, and an offset is even.
+    ensures well_formed { IfSome result IsWellFormed }
 {
     by_opcode(word)
 }
