@@ -2,8 +2,10 @@
 use Rattle.std.proofs.Common.{◌≡◌, ℕ, ◌+◌, ◌<◌, ◌≤◌, ◌==◌, true, List, Some, refl, sym, ap, ◌∙◌, subst, arith, add_assoc, eqb}
 use Rattle.std.proofs.lemmas.Bool.Decides.{nat_tests}
 use Rattle.pl_base.specs.declared.state.Why.TheVariants.{Ended, Budget}
-use Rattle.rv_alone.specs.Flat.{Image, Flat, Status, on, ended}
-use Rattle.rv_alone.specs.Alone.{Outcome, one, next, alone}
+use Rattle.rv_alone.specs.declared.step.Act.{Act}
+use Rattle.rv_alone.specs.Effect.{act_of}
+use Rattle.rv_alone.specs.Flat.{Image, Flat, Status, on, ended, fetched}
+use Rattle.rv_alone.specs.Alone.{Outcome, one, runs, acts, context_of, next, alone}
 use Rattle.rv_alone.proofs.AloneLemmas.{alone_more}
 use Rattle.penglai_main.specs.Running.{reason, MayLeave}
 
@@ -24,3 +26,7 @@ pub leave_budget : (image : Image) (sent : List ℕ) (retired budget count : ℕ
     → MayLeave image sent retired budget budget Budget
 leave_budget image sent retired budget count a so_far is_on whole =
     (omega arith, (a, subst (λ n. alone image sent (retired + n) ≡ Some a) whole so_far, ap (λ (s : Status). reason s (budget == budget) (one a sent)) is_on ∙ ap (λ b. reason on b (one a sent)) (spent budget)))
+
+-- what an instruction comes to, by the word that was fetched and its act
+pub one_of_act : (a : Flat) (sent : List ℕ) (word : ℕ) (act : Act) → fetched a.pages a.pc ≡ Some word → act_of (context_of a) word ≡ act → one a sent ≡ acts a sent act
+one_of_act a sent word act is_word is_act = ap (runs a sent) is_word ∙ ap (acts a sent) is_act

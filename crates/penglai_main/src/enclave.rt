@@ -2,7 +2,7 @@
 ghost use Rattle.std.specs.Prelude.{◌≡◌, ◌<◌, ◌≤◌, ◌%◌, ◌↔◌, IsTrue, ℕ, List, [], ◌∷◌, length, IfOk, Some, vec_len, vec_capacity};
 ghost use Rattle.rv_insn.specs.Table.{is_width};
 ghost use Rattle.rv_alone.specs.Alone.{one, calls, loads, sends};
-ghost use Rattle.rv_alone.specs.Flat.{Page, fetched, read_from, start_of, start_registers};
+ghost use Rattle.rv_alone.specs.Flat.{Page, fetched, read, start_of, start_registers};
 ghost use Rattle.penglai_main.specs.Setup.{code_page, image_of};
 ghost use Rattle.penglai_main.specs.Running.{state_left};
 
@@ -61,11 +61,11 @@ fn fetch(page: &[u8], address: u64) -> Option<u32>
 }
 
 // The number of `width` bytes at an address of the page, little-endian.
-fn read_from(page: &[u8], address: u64, width: u8) -> Option<u64>
+fn read(page: &[u8], address: u64, width: u8) -> Option<u64>
     requires page { length page.now ≡ 4096 }
     requires aligned { address % width ≡ 0 }
     requires width { IsTrue (is_width width) }
-    ensures { result ≡ read_from (code_page page.now ∷ []) address width }
+    ensures { result ≡ read (code_page page.now ∷ []) address width }
 {
     if !is_in_page(address) {
         return None;
@@ -164,9 +164,9 @@ impl Enclave {
         requires aligned { address % width ≡ 0 }
         requires width { IsTrue (is_width width) }
         requires register { rd < 32 }
-        ensures { loads (flat_of (code_page page.now ∷ []) self.old) address width signed rd ≡ outcome_of result (flat_of (code_page page.now ∷ []) self.new) }
+        ensures { loads (flat_of (code_page page.now ∷ []) self.old) address width signed rd (read (code_page page.now ∷ []) address width) ≡ outcome_of result (flat_of (code_page page.now ∷ []) self.new) }
     {
-        let Some(raw) = read_from(page, address, width) else {
+        let Some(raw) = read(page, address, width) else {
             return Stepped::Trapped {
                 cause: 13,
                 value: address,

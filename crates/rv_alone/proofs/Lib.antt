@@ -1,1 +1,4 @@
+pub mod Accesses
 pub mod AloneLemmas
+pub mod Later
+pub mod Pages

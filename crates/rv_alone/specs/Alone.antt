@@ -1,13 +1,13 @@
 -- One instruction of the flat machine, and an image run alone (the ECALL numbers are this project's own).
-use Rattle.std.specs.Option.{option_map_or}
-use Rattle.std.specs.Prelude.{Bool, ℕ, zero, suc, ◌+◌, ◌==◌, nat_lt, if◌then◌else◌, List, [], ◌∷◌, ◌++◌, length, slice_index, Option, Some, None, option_and_then, option_map}
+use Rattle.std.specs.Prelude.{ℕ, zero, suc, ◌+◌, Bool, ◌==◌, nat_lt, if◌then◌else◌, List, [], ◌∷◌, ◌++◌, length, slice_index, Option, Some, None, option_and_then}
+use Rattle.std.specs.Option.{option_map}
 use Rattle.std.specs.List.{list_any}
-use Rattle.pl_base.specs.declared.access.Kind.TheVariants as Kind_is
+use Rattle.pl_base.specs.declared.access.Kind.TheVariants as kind
 use Rattle.rv_alone.specs.declared.step.Act.{Act}
 use Rattle.rv_alone.specs.declared.step.Act.TheVariants.{Set, Load, Store, Call, Trap}
 use Rattle.rv_alone.specs.declared.step.Context.{Context}
-use Rattle.rv_alone.specs.Effect.{act_of, advanced, after_load, with_register}
-use Rattle.rv_alone.specs.Flat.{Image, Flat, on, ended, Status, start_of, fetched, read_from, written_to, accessed, page_number}
+use Rattle.rv_alone.specs.Effect.{act_of, advanced, loaded, with_register}
+use Rattle.rv_alone.specs.Flat.{Image, Flat, Page, on, ended, Status, start_of, fetched, read, stored, permitted, page_number}
 
 -- what an instruction comes to: a trap with its cause and value, a wait for a word, no room for a word, or the next state
 pub data Outcome : Type 0 where
@@ -47,20 +47,19 @@ calls a sent number value =
     else if number == 3 then sends a value
     else trap 8 number
 
--- a load from a page that isn't there traps with cause 13 and the address
-abbrev pub loads : Flat → ℕ → ℕ → Bool → ℕ → Outcome
-loads a address width is_signed rd =
-    option_map_or (λ raw. next (with_context a (after_load (context_of a) rd width is_signed raw))) (read_from a.pages address width) (trap 13 address)
+-- a load from no page that may be read traps with cause 13, a store to no page that may be written with cause 15
+abbrev pub loads : Flat → ℕ → ℕ → Bool → ℕ → Option ℕ → Outcome
+loads a address width is_signed rd None = trap 13 address
+loads a address width is_signed rd (Some raw) = next (with_context a (loaded (context_of a) rd width is_signed raw))
 
--- a store to a page that isn't there or has no W traps with cause 15 and the address
-abbrev pub stores : Flat → ℕ → ℕ → ℕ → Outcome
-stores a address width value =
-    option_map_or (λ pages. next (record (with_context a (advanced (context_of a))) { pages = pages })) (written_to a.pages address width value) (trap 15 address)
+abbrev pub stores : Flat → ℕ → Option (List Page) → Outcome
+stores a address None = trap 15 address
+stores a address (Some pages) = next (record (with_context a (advanced (context_of a))) { pages = pages })
 
 abbrev pub acts : Flat → List ℕ → Act → Outcome
 acts a sent (Set context) = next (with_context a context)
-acts a sent (Load address width is_signed rd) = loads a address width is_signed rd
-acts a sent (Store address width value) = stores a address width value
+acts a sent (Load address width is_signed rd) = loads a address width is_signed rd (read a.pages address width)
+acts a sent (Store address width value) = stores a address (stored a.pages address width value)
 acts a sent (Call number value) = calls a sent number value
 acts a sent (Trap cause value) = trap cause value
 
@@ -87,20 +86,23 @@ unfoldable pub alone : Image → List ℕ → ℕ → Option Flat
 alone image sent zero = Some (start_of image)
 alone image sent (suc n) = option_and_then (λ a. advance_by a.status a sent) (alone image sent n)
 
--- the number of the page that a state's instruction stores to, where it stores
-abbrev pub stored_page_of : Flat → Act → Option ℕ
-stored_page_of a (Store address width value) = option_map (λ page. page_number address) (accessed a.pages Kind_is.Store address)
-stored_page_of a _ = None
+-- ---- the pages that a run stores to
 
-abbrev pub stored_page : Flat → Option ℕ
-stored_page a = option_and_then (λ word. stored_page_of a (act_of (context_of a) word)) (fetched a.pages a.pc)
+-- the page that the next instruction of a state stores to, where it stores
+abbrev pub page_of_act : Flat → Act → Option ℕ
+page_of_act a (Store address width value) = option_map (λ (page : Page). page_number address) (permitted kind.Store a.pages address)
+page_of_act a _ = None
 
--- a page after the others, where it isn't among them
+abbrev pub page_written : Status → Flat → Option ℕ
+page_written on a = option_and_then (λ word. page_of_act a (act_of (context_of a) word)) (fetched a.pages a.pc)
+page_written (ended code) a = None
+
+-- a page comes last where it isn't there yet
 abbrev pub with_page : List ℕ → Option ℕ → List ℕ
 with_page pages None = pages
-with_page pages (Some page) = if list_any (λ other. other == page) pages then pages else pages ++ page ∷ []
+with_page pages (Some page) = if list_any (λ p. p == page) pages then pages else pages ++ page ∷ []
 
--- the pages that the first instructions of a run store to, in order of the first store, each once
+-- the pages that the first so many instructions store to, in order of the first store
 unfoldable pub written_pages : Image → List ℕ → ℕ → List ℕ
 written_pages image sent zero = []
-written_pages image sent (suc n) = with_page (written_pages image sent n) (option_and_then stored_page (alone image sent n))
+written_pages image sent (suc n) = with_page (written_pages image sent n) (option_and_then (λ (a : Flat). page_written a.status a) (alone image sent n))

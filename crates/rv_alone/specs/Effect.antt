@@ -1,87 +1,88 @@
--- What an instruction does to the registers and to pc (RISC-V Unprivileged ISA, RV64I and the M extension).
-use Rattle.std.specs.Prelude.{◌≡◌, ⊤, ℕ, ℤ, pos, ◌+ℤ◌, ◌+◌, ◌-◌, ◌*◌, ◌%◌, ◌^◌, ◌<◌, ◌==◌, if◌then◌else◌, Bool, IsTrue, slice_index, slice_set}
+-- What an instruction does to the registers and to pc, and which access, call or trap it is
+-- (RISC-V Unprivileged ISA, RV64I and the M extension; the causes of traps are the Privileged Architecture's).
+use Rattle.std.specs.Prelude.{◌≡◌, ℕ, ℤ, pos, ◌+ℤ◌, ◌+◌, ◌*◌, ◌/◌, ◌%◌, ◌^◌, ◌<◌, ◌==◌, Bool, if◌then◌else◌, List, slice_index, slice_set, IsTrue}
 use Rattle.std.specs.Option.{option_map_or}
 use Rattle.rv_insn.specs.declared.insn.Insn.{Insn}
-use Rattle.rv_insn.specs.declared.insn.Insn.TheVariants as insn_is
-use Rattle.rv_insn.specs.Word.{signed}
+use Rattle.rv_insn.specs.declared.insn.Insn.TheVariants as insn
 use Rattle.rv_insn.specs.Table.{instruction_of, is_width}
-use Rattle.rv_alu.specs.Values.{alu_value, is_taken, wrapped}
+use Rattle.rv_insn.specs.Word.{signed}
+use Rattle.rv_alu.specs.Values.{wrapped, alu_value, is_taken}
 use Rattle.rv_alone.specs.declared.step.Act.{Act}
 use Rattle.rv_alone.specs.declared.step.Act.TheVariants.{Set, Load, Store, Call, Trap}
 use Rattle.rv_alone.specs.declared.step.Context.{Context}
 
 -- x0 reads 0
-abbrev pub register : Context → ℕ → ℕ
-register context at = if at == 0 then 0 else slice_index context.regs at
+abbrev pub register : List ℕ → ℕ → ℕ
+register regs at = if at == 0 then 0 else slice_index regs at
 
 -- a write to x0 is dropped
 abbrev pub with_register : Context → ℕ → ℕ → Context
 with_register context at value = if at == 0 then context else record context { regs = slice_set context.regs at value }
 
-abbrev pub with_pc : Context → ℕ → Context
-with_pc context pc = record context { pc = pc }
-
--- the address of the next instruction in the order of addresses
-abbrev pub following : Context → ℕ
-following context = (context.pc + 4) % 2 ^ 64
-
+-- the next instruction is 4 bytes on
 abbrev pub advanced : Context → Context
-advanced context = with_pc context (following context)
+advanced context = record context { pc = (context.pc + 4) % 2 ^ 64 }
 
--- an instruction that gives a register a value, and goes on
-abbrev pub gives : Context → ℕ → ℕ → Act
-gives context rd value = Set (advanced (with_register context rd value))
+-- an address or a register and a sign-extended immediate, modulo 2^64
+abbrev pub sum_of : ℕ → ℤ → ℕ
+sum_of a imm = wrapped 64 (pos a +ℤ imm)
 
--- a sum of an address and an immediate
-abbrev pub offset_by : ℕ → ℤ → ℕ
-offset_by base imm = wrapped 64 (pos base +ℤ imm)
+-- the value goes into rd
+abbrev pub sets : Context → ℕ → ℕ → Act
+sets context rd value = Set (advanced (with_register context rd value))
 
--- a jump to a target that isn't a multiple of 4 traps with cause 0 and the target
-abbrev pub jumps : Context → ℕ → Act
-jumps context target = if target % 4 == 0 then Set (with_pc context target) else Trap 0 target
+-- a jump to a target with bit 1 set traps with cause 0 (instruction address misaligned)
+abbrev pub goes_to : Context → ℕ → Act
+goes_to context target = if target / 2 % 2 == 1 then Trap 0 target else Set (record context { pc = target })
 
--- a jump that leaves the following address in a register
+-- the address of the instruction behind goes into rd
 abbrev pub links : Context → ℕ → ℕ → Act
-links context rd target = jumps (with_register context rd (following context)) target
+links context rd target = goes_to (with_register context rd ((context.pc + 4) % 2 ^ 64)) target
 
--- an access to an address that isn't a multiple of its width traps
-abbrev pub aligned_at : ℕ → ℕ → ℕ → Act → Act
-aligned_at address width cause act = if address % width == 0 then act else Trap cause address
+-- a load of an address that is no multiple of its width traps with cause 4, a store with cause 6
+abbrev pub loads : ℕ → ℕ → Bool → ℕ → Act
+loads address width is_signed rd = if address % width == 0 then Load address width is_signed rd else Trap 4 address
+
+abbrev pub stores : ℕ → ℕ → ℕ → Act
+stores address width value = if address % width == 0 then Store address width value else Trap 6 address
 
 -- the effect of an instruction; every ECALL is a call with a7 and a0
 abbrev pub effect_of : Context → Insn → Act
-effect_of context (insn_is.Lui rd imm) = gives context rd (wrapped 64 imm)
-effect_of context (insn_is.Auipc rd imm) = gives context rd (offset_by context.pc imm)
-effect_of context (insn_is.Jal rd offset) = links context rd (offset_by context.pc offset)
--- bit 0 of the target is cleared
-effect_of context (insn_is.Jalr rd rs1 imm) = let target = offset_by (register context rs1) imm in links context rd (target - target % 2)
-effect_of context (insn_is.Branch cond rs1 rs2 offset) =
-    if is_taken cond (register context rs1) (register context rs2) then jumps context (offset_by context.pc offset) else Set (advanced context)
-effect_of context (insn_is.Load width is_signed rd rs1 imm) =
-    let address = offset_by (register context rs1) imm in aligned_at address width 4 (Load address width is_signed rd)
-effect_of context (insn_is.Store width rs1 rs2 imm) =
-    let address = offset_by (register context rs1) imm in aligned_at address width 6 (Store address width (register context rs2))
-effect_of context (insn_is.OpImm op rd rs1 imm) = gives context rd (alu_value op (register context rs1) (wrapped 64 imm))
-effect_of context (insn_is.Op op rd rs1 rs2) = gives context rd (alu_value op (register context rs1) (register context rs2))
-effect_of context (insn_is.Fence high rd) = Set (advanced context)
-effect_of context insn_is.Ecall = Call (register context 17) (register context 10)
-effect_of context insn_is.Ebreak = Trap 3 context.pc
+effect_of context (insn.Lui rd imm) = sets context rd (wrapped 64 imm)
+effect_of context (insn.Auipc rd imm) = sets context rd (sum_of context.pc imm)
+effect_of context (insn.Jal rd offset) = links context rd (sum_of context.pc offset)
+effect_of context (insn.Jalr rd rs1 imm) = links context rd (sum_of (register context.regs rs1) imm / 2 * 2)
+effect_of context (insn.Branch cond rs1 rs2 offset) =
+    if is_taken cond (register context.regs rs1) (register context.regs rs2) then goes_to context (sum_of context.pc offset) else Set (advanced context)
+effect_of context (insn.Load width is_signed rd rs1 imm) = loads (sum_of (register context.regs rs1) imm) width is_signed rd
+effect_of context (insn.Store width rs1 rs2 imm) = stores (sum_of (register context.regs rs1) imm) width (register context.regs rs2)
+effect_of context (insn.OpImm op rd rs1 imm) = sets context rd (alu_value op (register context.regs rs1) (wrapped 64 imm))
+effect_of context (insn.Op op rd rs1 rs2) = sets context rd (alu_value op (register context.regs rs1) (register context.regs rs2))
+effect_of context (insn.Fence high rd) = Set (advanced context)
+effect_of context insn.Ecall = Call (register context.regs 17) (register context.regs 10)
+effect_of context insn.Ebreak = Trap 3 context.pc
 
 -- what a word does; an illegal one traps with cause 2
-unfoldable pub act_of : Context → ℕ → Act
+abbrev pub act_of : Context → ℕ → Act
 act_of context word = option_map_or (effect_of context) (instruction_of word) (Trap 2 word)
 
--- the value of the lowest bytes of a number that was loaded
+-- what a load of so many bytes puts into its register: the low bytes of raw, sign-extended or not
 abbrev pub loaded_value : ℕ → Bool → ℕ → ℕ
-loaded_value width is_signed raw = if is_signed then wrapped 64 (signed (8 * width) (raw % 256 ^ width)) else raw % 256 ^ width
+loaded_value width is_signed raw =
+    let low = raw % 2 ^ (8 * width) in
+    if is_signed then wrapped 64 (signed (8 * width) low) else low
 
 -- the context after a load
-abbrev pub after_load : Context → ℕ → ℕ → Bool → ℕ → Context
-after_load context rd width is_signed raw = advanced (with_register context rd (loaded_value width is_signed raw))
+abbrev pub loaded : Context → ℕ → ℕ → Bool → ℕ → Context
+loaded context rd width is_signed raw = advanced (with_register context rd (loaded_value width is_signed raw))
 
--- the next instruction is at a multiple of 4, where the last one was; an access is aligned to its width
-abbrev pub IsAligned : Context → Act → Type 0
-IsAligned before (Set context) = before.pc % 4 ≡ 0 → context.pc % 4 ≡ 0
-IsAligned before (Load address width is_signed rd) = (address % width ≡ 0) × IsTrue (is_width width) × (rd < 32)
-IsAligned before (Store address width value) = (address % width ≡ 0) × IsTrue (is_width width)
-IsAligned before _ = ⊤
+-- the next instruction, where there is one, is at a multiple of 4
+abbrev pub IsAligned : Act → Type 0
+IsAligned (Set context) = context.pc % 4 ≡ 0
+IsAligned _ = Unit {0}
+
+-- an access is of 1, 2, 4 or 8 bytes at a multiple of its width, and a load's register is below 32
+abbrev pub IsAccess : Act → Type 0
+IsAccess (Load address width is_signed rd) = IsTrue (is_width width) × (address % width ≡ 0) × (rd < 32)
+IsAccess (Store address width value) = IsTrue (is_width width) × (address % width ≡ 0)
+IsAccess _ = Unit {0}

@@ -1,5 +1,6 @@
 -- An enclave image, and the flat machine that runs it alone.
-use Rattle.std.specs.Prelude.{ℕ, ◌+◌, ◌-◌, ◌*◌, ◌/◌, ◌%◌, nat_le, if◌then◌else◌, List, [], length, take, drop, ◌++◌, option_map, replicate, slice_get, slice_set, Option, Some, None, option_and_then}
+use Rattle.std.specs.Prelude.{ℕ, ◌+◌, ◌-◌, ◌*◌, ◌/◌, ◌%◌, nat_le, if◌then◌else◌, List, [], ◌++◌, length, take, drop, replicate, slice_get, slice_set, Option, Some, None, option_and_then}
+use Rattle.std.specs.Option.{option_map}
 use Rattle.byteorder.specs.Endian.{little_number, little_bytes}
 use Rattle.pl_base.specs.declared.perms.Perms.{Perms}
 use Rattle.pl_base.specs.declared.access.Kind.{Kind}
@@ -47,39 +48,35 @@ start_of image = record {
   status = on;
 }
 
--- the number of an address's page in the list
+-- the number of the page of an address, and its page
 abbrev pub page_number : ℕ → ℕ
 page_number address = (address - first_address) / 4096
 
--- the page of an address
 abbrev pub page_at : List Page → ℕ → Option Page
 page_at pages address = if nat_le first_address address then slice_get pages (page_number address) else None
 
-abbrev pub granted : Kind → Page → Option Page
-granted kind page = if grants page.perms kind then Some page else None
+-- the page of an address, where its permissions let an access of the kind through
+abbrev pub permitted : Kind → List Page → ℕ → Option Page
+permitted kind pages address = option_and_then (λ (page : Page). if grants page.perms kind then Some page else None) (page_at pages address)
 
--- the page of an address, where its permissions let an access of this kind through
-abbrev pub accessed : List Page → Kind → ℕ → Option Page
-accessed pages kind address = option_and_then (granted kind) (page_at pages address)
+-- the number in so many bytes of its page from an address on, little-endian
+abbrev pub number_in : ℕ → ℕ → Page → ℕ
+number_in width address page = little_number width (drop (address % 4096) page.bytes)
 
--- the number of so many bytes at an address's place in its page, little-endian
-abbrev pub number_at : ℕ → ℕ → Page → ℕ
-number_at address width page = little_number width (drop (address % 4096) page.bytes)
-
--- the word of 32 bits at an address that may be fetched from
-abbrev pub fetched : List Page → ℕ → Option ℕ
-fetched pages address = option_map (number_at address 4) (accessed pages Fetch address)
-
--- the number of so many bytes at an address that may be loaded from
-abbrev pub read_from : List Page → ℕ → ℕ → Option ℕ
-read_from pages address width = option_map (number_at address width) (accessed pages Load address)
-
--- the page with the lowest bytes of a value at an address's place, little-endian
+-- the page with the lowest bytes of a value there
 abbrev pub with_number : ℕ → ℕ → ℕ → Page → Page
-with_number address width value page =
-    let at = address % 4096 in record page { bytes = take at page.bytes ++ (little_bytes width value ++ drop (at + width) page.bytes) }
+with_number width address value page =
+    let offset = address % 4096 in
+    record page { bytes = take offset page.bytes ++ little_bytes width value ++ drop (offset + width) page.bytes }
 
--- the pages after a store, where the address may be stored to
-abbrev pub written_to : List Page → ℕ → ℕ → ℕ → Option (List Page)
-written_to pages address width value =
-    option_map (λ page. slice_set pages (page_number address) (with_number address width value page)) (accessed pages Store address)
+-- the word of 32 bits that is fetched from an address
+abbrev pub fetched : List Page → ℕ → Option ℕ
+fetched pages address = option_map (number_in 4 address) (permitted Fetch pages address)
+
+-- what a load of so many bytes reads
+abbrev pub read : List Page → ℕ → ℕ → Option ℕ
+read pages address width = option_map (number_in width address) (permitted Load pages address)
+
+-- the pages after a store of so many bytes
+abbrev pub stored : List Page → ℕ → ℕ → ℕ → Option (List Page)
+stored pages address width value = option_map (λ (page : Page). slice_set pages (page_number address) (with_number width address value page)) (permitted Store pages address)

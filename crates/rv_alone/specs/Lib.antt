@@ -1,3 +1,4 @@
+pub mod Alone
 pub mod Effect
 pub mod Flat
-pub mod Alone
+pub mod Laws

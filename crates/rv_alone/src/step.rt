@@ -1,8 +1,7 @@
-ghost use Rattle.std.specs.Prelude.{◌≡◌, ◌<◌, ◌%◌, IsTrue};
-ghost use Rattle.rv_insn.specs.Word.{signed};
-ghost use Rattle.rv_insn.specs.Table.{is_width, IsWellFormed};
+ghost use Rattle.std.specs.Prelude.{◌≡◌, ◌<◌, ◌*◌, ◌/◌, ◌%◌, IsTrue};
+ghost use Rattle.rv_insn.specs.Table.{IsWellFormed, is_width};
 ghost use Rattle.rv_alu.specs.Values.{wrapped};
-ghost use Rattle.rv_alone.specs.Effect.{IsAligned, act_of, advanced, after_load, aligned_at, effect_of, following, gives, jumps, links, loaded_value, offset_by, register, with_register};
+ghost use Rattle.rv_alone.specs.Effect.{IsAligned, IsAccess, act_of, advanced, effect_of, goes_to, links, loaded, loaded_value, loads, register, sets, stores, sum_of, with_register};
 
 use rv_alu::{alu, taken};
 use rv_insn::{Insn, decode};
@@ -19,14 +18,14 @@ pub struct Context {
 pub enum Act {
     /// It retires, and this context follows.
     Set(Context),
-    /// It loads `width` bytes, 1, 2, 4 or 8, from an address that is a multiple of it, into `rd`.
+    /// It loads `width` bytes at `address`, a multiple of `width`, into register `rd`.
     Load {
         address: u64,
         width: u8,
         signed: bool,
         rd: u8,
     },
-    /// It stores the lowest `width` bytes of `value` at an address that is a multiple of it.
+    /// It stores the lowest `width` bytes of `value` at `address`, a multiple of `width`.
     Store {
         address: u64,
         width: u8,
@@ -46,7 +45,7 @@ pub enum Act {
 
 fn register(context: &Context, at: u8) -> u64
     requires { at < 32 }
-    ensures { result ≡ register context.now at }
+    ensures { result ≡ register context.now.regs at }
 {
     if at == 0 {
         0
@@ -67,46 +66,40 @@ fn with_register(context: &Context, at: u8, value: u64) -> Context
     after
 }
 
-fn following(context: &Context) -> u64
-    ensures { result ≡ following context.now }
-{
-    context.pc.wrapping_add(4)
-}
-
 /// The context after an instruction that leaves the registers alone: `pc` is 4 higher.
 pub fn passed(context: &Context) -> Context
     ensures { result ≡ advanced context.now }
 {
     Context {
         regs: context.regs,
-        pc: following(context),
+        pc: context.pc.wrapping_add(4),
     }
 }
 
-fn immediate(imm: i32) -> u64
+fn extended(imm: i32) -> u64
     ensures { result ≡ wrapped 64 imm }
 {
     i64::from(imm).cast_unsigned()
 }
 
-fn offset_by(base: u64, imm: i32) -> u64
-    ensures { result ≡ offset_by base imm }
+fn sum_of(a: u64, imm: i32) -> u64
+    ensures { result ≡ sum_of a imm }
 {
-    base.wrapping_add_signed(i64::from(imm))
+    a.wrapping_add_signed(i64::from(imm))
 }
 
-// An instruction that gives a register a value, and goes on.
-fn gives(context: &Context, rd: u8, value: u64) -> Act
+fn set(context: &Context, rd: u8, value: u64) -> Act
     requires { rd < 32 }
-    ensures { result ≡ gives context.now rd value }
+    ensures { result ≡ sets context.now rd value }
 {
     Act::Set(passed(&with_register(context, rd, value)))
 }
 
-fn jumps(context: &Context, target: u64) -> Act
-    ensures { result ≡ jumps context.now target }
+// A target with bit 1 set is misaligned.
+fn go(context: &Context, target: u64) -> Act
+    ensures { result ≡ goes_to context.now target }
 {
-    if target % 4 != 0 {
+    if target >> 1 & 1 == 1 {
         return Act::Trap {
             cause: 0,
             value: target,
@@ -118,80 +111,26 @@ fn jumps(context: &Context, target: u64) -> Act
     })
 }
 
-// A jump that leaves the following address in a register.
-fn links(context: &Context, rd: u8, target: u64) -> Act
+fn link(context: &Context, rd: u8, target: u64) -> Act
     requires { rd < 32 }
     ensures { result ≡ links context.now rd target }
 {
-    jumps(&with_register(context, rd, following(context)), target)
+    go(
+        &with_register(context, rd, context.pc.wrapping_add(4)),
+        target,
+    )
 }
 
-// The effect of an instruction.
-fn effect_of(context: &Context, insn: Insn) -> Act
-    requires { IsWellFormed insn }
-    ensures effect { result ≡ effect_of context.now insn }
-    ensures aligned { IsAligned context.now result }
+// A target of JALR has bit 0 cleared.
+fn even(target: u64) -> u64
+    ensures { result ≡ target / 2 * 2 }
 {
-    match insn {
-        Insn::Lui { rd, imm } => gives(context, rd, immediate(imm)),
-        Insn::Auipc { rd, imm } => gives(context, rd, offset_by(context.pc, imm)),
-        Insn::Jal { rd, offset } => links(context, rd, offset_by(context.pc, offset)),
-        Insn::Jalr { rd, rs1, imm } => {
-            let target = offset_by(register(context, rs1), imm);
-            links(context, rd, target - target % 2)
-        }
-        Insn::Branch {
-            cond,
-            rs1,
-            rs2,
-            offset,
-        } => {
-            if taken(cond, register(context, rs1), register(context, rs2)) {
-                jumps(context, offset_by(context.pc, offset))
-            } else {
-                Act::Set(passed(context))
-            }
-        }
-        Insn::Load {
-            width,
-            signed,
-            rd,
-            rs1,
-            imm,
-        } => load(offset_by(register(context, rs1), imm), width, signed, rd),
-        Insn::Store {
-            width,
-            rs1,
-            rs2,
-            imm,
-        } => store(
-            offset_by(register(context, rs1), imm),
-            width,
-            register(context, rs2),
-        ),
-        Insn::OpImm { op, rd, rs1, imm } => {
-            let value = alu(op, register(context, rs1), immediate(imm));
-            gives(context, rd, value)
-        }
-        Insn::Op { op, rd, rs1, rs2 } => {
-            let value = alu(op, register(context, rs1), register(context, rs2));
-            gives(context, rd, value)
-        }
-        Insn::Fence { .. } => Act::Set(passed(context)),
-        Insn::Ecall => Act::Call {
-            number: register(context, 17),
-            value: register(context, 10),
-        },
-        Insn::Ebreak => Act::Trap {
-            cause: 3,
-            value: context.pc,
-        },
-    }
+    target & !1
 }
 
 fn load(address: u64, width: u8, signed: bool, rd: u8) -> Act
     requires { IsTrue (is_width width) }
-    ensures { result ≡ aligned_at address width 4 (Act.Load address width signed rd) }
+    ensures { result ≡ loads address width signed rd }
 {
     if address % u64::from(width) != 0 {
         return Act::Trap {
@@ -209,7 +148,7 @@ fn load(address: u64, width: u8, signed: bool, rd: u8) -> Act
 
 fn store(address: u64, width: u8, value: u64) -> Act
     requires { IsTrue (is_width width) }
-    ensures { result ≡ aligned_at address width 6 (Act.Store address width value) }
+    ensures { result ≡ stores address width value }
 {
     if address % u64::from(width) != 0 {
         return Act::Trap {
@@ -224,14 +163,74 @@ fn store(address: u64, width: u8, value: u64) -> Act
     }
 }
 
+fn effect(context: &Context, insn: Insn) -> Act
+    requires { IsWellFormed insn }
+    ensures { result ≡ effect_of context.now insn }
+{
+    match insn {
+        Insn::Lui { rd, imm } => set(context, rd, extended(imm)),
+        Insn::Auipc { rd, imm } => set(context, rd, sum_of(context.pc, imm)),
+        Insn::Jal { rd, offset } => link(context, rd, sum_of(context.pc, offset)),
+        Insn::Jalr { rd, rs1, imm } => {
+            link(context, rd, even(sum_of(register(context, rs1), imm)))
+        }
+        Insn::Branch {
+            cond,
+            rs1,
+            rs2,
+            offset,
+        } => {
+            if taken(cond, register(context, rs1), register(context, rs2)) {
+                go(context, sum_of(context.pc, offset))
+            } else {
+                Act::Set(passed(context))
+            }
+        }
+        Insn::Load {
+            width,
+            signed,
+            rd,
+            rs1,
+            imm,
+        } => load(sum_of(register(context, rs1), imm), width, signed, rd),
+        Insn::Store {
+            width,
+            rs1,
+            rs2,
+            imm,
+        } => store(
+            sum_of(register(context, rs1), imm),
+            width,
+            register(context, rs2),
+        ),
+        Insn::OpImm { op, rd, rs1, imm } => {
+            let value = alu(op, register(context, rs1), extended(imm));
+            set(context, rd, value)
+        }
+        Insn::Op { op, rd, rs1, rs2 } => {
+            let value = alu(op, register(context, rs1), register(context, rs2));
+            set(context, rd, value)
+        }
+        Insn::Fence { .. } => Act::Set(passed(context)),
+        Insn::Ecall => Act::Call {
+            number: register(context, 17),
+            value: register(context, 10),
+        },
+        Insn::Ebreak => Act::Trap {
+            cause: 3,
+            value: context.pc,
+        },
+    }
+}
+
 /// What the word at `pc` does.
-#[tactic(auto, unfolding(crate::specs::Effect::act_of))]
 pub fn next(context: &Context, word: u32) -> Act
     ensures act { result ≡ act_of context.now word }
-    ensures aligned { IsAligned context.now result }
+    ensures aligned { context.now.pc % 4 ≡ 0 → IsAligned result }
+    ensures access { IsAccess result }
 {
     match decode(word) {
-        Some(insn) => effect_of(context, insn),
+        Some(insn) => effect(context, insn),
         None => Act::Trap {
             cause: 2,
             value: u64::from(word),
@@ -239,63 +238,27 @@ pub fn next(context: &Context, word: u32) -> Act
     }
 }
 
-fn low_8(raw: u64) -> u8
-    ensures { result ≡ raw % 256 }
-{
-    (raw & 0xff) as u8
-}
-
-fn low_16(raw: u64) -> u16
-    ensures { result ≡ raw % 65536 }
-{
-    (raw & 0xffff) as u16
-}
-
-fn low_32(raw: u64) -> u32
-    ensures { result ≡ raw % 4294967296 }
-{
-    (raw & 0xffff_ffff) as u32
-}
-
-fn extended_8(byte: u8) -> u64
-    ensures { result ≡ wrapped 64 (signed 8 byte) }
-{
-    i64::from(byte.cast_signed()).cast_unsigned()
-}
-
-fn extended_16(half: u16) -> u64
-    ensures { result ≡ wrapped 64 (signed 16 half) }
-{
-    i64::from(half.cast_signed()).cast_unsigned()
-}
-
-fn extended_32(word: u32) -> u64
-    ensures { result ≡ wrapped 64 (signed 32 word) }
-{
-    i64::from(word.cast_signed()).cast_unsigned()
-}
-
-// The value of the lowest bytes of a number that was loaded.
+// The lowest bytes of what was read, sign-extended or not.
 fn loaded_value(width: u8, signed: bool, raw: u64) -> u64
     requires { IsTrue (is_width width) }
     ensures { result ≡ loaded_value width signed raw }
 {
     match (width, signed) {
-        (1, false) => u64::from(low_8(raw)),
-        (1, true) => extended_8(low_8(raw)),
-        (2, false) => u64::from(low_16(raw)),
-        (2, true) => extended_16(low_16(raw)),
-        (4, false) => u64::from(low_32(raw)),
-        (4, true) => extended_32(low_32(raw)),
+        (1, true) => i64::from(((raw & 0xff) as u8).cast_signed()).cast_unsigned(),
+        (2, true) => i64::from(((raw & 0xffff) as u16).cast_signed()).cast_unsigned(),
+        (4, true) => i64::from(((raw & 0xffff_ffff) as u32).cast_signed()).cast_unsigned(),
+        (1, false) => raw & 0xff,
+        (2, false) => raw & 0xffff,
+        (4, false) => raw & 0xffff_ffff,
         _ => raw,
     }
 }
 
-/// The context after a load of `width` bytes into `rd`: they are the lowest of `raw`.
+/// The context after a load of `width` bytes, the lowest of `raw`.
 pub fn loaded(context: &Context, rd: u8, width: u8, signed: bool, raw: u64) -> Context
-    requires register { rd < 32 }
+    requires rd { rd < 32 }
     requires width { IsTrue (is_width width) }
-    ensures { result ≡ after_load context.now rd width signed raw }
+    ensures { result ≡ loaded context.now rd width signed raw }
 {
     passed(&with_register(context, rd, loaded_value(width, signed, raw)))
 }

@@ -1,7 +1,7 @@
 -- Quotients and remainders give back the dividend.
-use Rattle.std.proofs.Common.{◌≡◌, ℕ, zero, suc, ◌+◌, ◌*◌, ◌<◌, ◌≤◌, ◌%◌, ◌/◌, ◌^◌, ◌-◌, Bool, true, false, cond, eqb, ℤ, pos, negsuc, ◌+ℤ◌, ◌-ℤ◌, ◌*ℤ◌, w32, w64, to_z, Fits, refl, sym, ap, ◌∙◌, subst, arith, inl, inr}
+use Rattle.std.proofs.Common.{◌≡◌, ℕ, suc, ◌+◌, ◌*◌, ◌<◌, ◌%◌, ◌/◌, ◌^◌, ◌-◌, true, false, cond, eqb, ℤ, pos, negsuc, ◌+ℤ◌, ◌-ℤ◌, ◌*ℤ◌, w32, w64, to_z, Fits, refl, sym, ap, ◌∙◌, arith, inl, inr}
 use Rattle.std.specs.Int.{Width, int_wrap}
-use Rattle.std.specs.Int.RustNames.{int_div, int_rem, FitsSigned}
+use Rattle.std.specs.Int.RustNames.{int_div, int_rem}
 use Rattle.std.proofs.Math.Facts.{to_z_inj, sfits_to_z}
 use Rattle.std.proofs.lemmas.Bool.{eqb-true, cases_Bool, cases_lt, lt-ltb, le-ltb}
 use Rattle.std.proofs.lemmas.Bool.Decides.{nat_tests}

@@ -1,5 +1,5 @@
 -- Where the bits of an immediate lie in the word.
-use Rattle.std.proofs.Common.{◌≡◌, ℕ, ◌+◌, ◌-◌, ◌*◌, ◌<◌, ◌≤◌, ◌%◌, ◌/◌, ◌^◌, w32, of_z, refl, sym, ap, ◌∙◌, arith, inl, inr}
+use Rattle.std.proofs.Common.{◌≡◌, ℕ, ◌+◌, ◌-◌, ◌*◌, ◌<◌, ◌%◌, ◌^◌, w32, of_z, refl, sym, ap, ◌∙◌, arith, inl, inr}
 use Rattle.std.proofs.lemmas.Bool.{cases_lt}
 use Rattle.rv_insn.specs.Table.{IsEven}
 use Rattle.rv_insn.specs.Word.{bits, signed, i_immediate, b_immediate, u_immediate, j_immediate}
@@ -33,9 +33,9 @@ i_bits word u is = sym (ap (λ x. x % 2 ^ 12) is ∙ unsigned-signed 12 (bits wo
 -- an even number of so many bits is even as a signed one
 signed_even : (width n : ℕ) → 2 ^ width % 2 ≡ 0 → n < 2 ^ width → n % 2 ≡ 0 → IsEven (signed width n)
 signed_even width n power fits even = elim (cases_lt n (2 ^ (width - 1))) [
-      inl low ↦ rw (signed-low width n low) even
-    | inr high ↦ rw (signed-high width n high fits) (omega arith)
-    ]
+  | inl low ↦ rw (signed-low width n low) even
+  | inr high ↦ rw (signed-high width n high fits) (omega arith)
+]
 
 pub b_even : (word : ℕ) → IsEven (b_immediate word)
 b_even word = signed_even 13 (bits word 31 31 * 2 ^ 12 + bits word 7 7 * 2 ^ 11 + bits word 30 25 * 2 ^ 5 + bits word 11 8 * 2 ^ 1) refl (omega arith) (omega arith)

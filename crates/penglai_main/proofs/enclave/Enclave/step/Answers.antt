@@ -1,6 +1,6 @@
 use Rattle.std.proofs.Common.{[], ◌∷◌, sym, ◌∙◌}
 use Rattle.rv_alone.specs.declared.step.Act.TheVariants.{Load, Call}
-use Rattle.rv_alone.proofs.AloneLemmas.{one_of_act}
+use Rattle.penglai_main.proofs.RunLemmas.{one_of_act}
 use Rattle.penglai_main.specs.Setup.{code_page}
 use Rattle.penglai_main.specs.Enclave.{flat_of}
 use Rattle.penglai_main.proofs.enclave.Enclave.step.Goals as goal
