@@ -20,11 +20,10 @@ module _ {D : _} (t : Taken D) (small : t.page < 4096) (block : t.block_no < 64)
       let above : bytes_in (path_of t).places (Node 4 (t.page / 64) (i / 8)) ≡ t.level4 = rw (eq-eqb (t.page / 64) (t.page / 64) refl, eq-eqb 0 (i / 8) (omega arith)) refl in
       ap (λ (k : ℕ). entry k (bytes_in (path_of t).places (Node 4 (t.page / 64) (i / 8)))) (omega arith) ∙ ap (entry i) above
 
-  held2 : held (path_of t) (Node 2 (t.page / 64) (t.page % 64)) ≡ entry (t.page % 8) t.level3
+  held2 : held (path_of t) (Node 2 (t.page / 64) (t.page % 64)) ≡ entry (t.page % 64 % 8) t.level3
   held2 =
       let i : ℕ = t.page % 64 / 8 in
-      let above : bytes_in (path_of t).places (Node 3 (t.page / 64) i) ≡ t.level3 = rw (eq-eqb (t.page / 64) (t.page / 64) refl, eq-eqb i i refl) refl in
-      ap (λ (k : ℕ). entry k (bytes_in (path_of t).places (Node 3 (t.page / 64) i))) (omega arith) ∙ ap (entry (t.page % 8)) above
+      ap (entry (t.page % 64 % 8)) (rw (eq-eqb (t.page / 64) (t.page / 64) refl, eq-eqb i i refl) refl)
 
   held1 : held (path_of t) (Node 1 (t.page / 64) (8 * (t.page % 64) + t.block_no / 8)) ≡ entry (t.block_no / 8) t.level2
   held1 =
@@ -48,7 +47,7 @@ module _ {D : _} (t : Taken D) (small : t.page < 4096) (block : t.block_no < 64)
         else (if not (bytes_eq (digest_of t.block) h0) then Breaks (Block t.page t.block_no) else Holds))))
 
     abbrev pub word_verdict : Verdict
-    word_verdict = tests t.root (entry (t.page % 64 / 8) t.level4) (entry (t.page % 8) t.level3) (entry (t.block_no / 8) t.level2) (entry (t.block_no % 8) t.level1)
+    word_verdict = tests t.root (entry (t.page % 64 / 8) t.level4) (entry (t.page % 64 % 8) t.level3) (entry (t.block_no / 8) t.level2) (entry (t.block_no % 8) t.level1)
 
     pub verdict_of-path_of : verdict_of digest_of (path_of t) ≡ word_verdict
     verdict_of-path_of =
@@ -58,7 +57,7 @@ module _ {D : _} (t : Taken D) (small : t.page < 4096) (block : t.block_no < 64)
         let h1 : List ℕ = held (path_of t) (Node 1 (t.page / 64) bottom) in
         let h0 : List ℕ = held (path_of t) (Block t.page t.block_no) in
         let e3 : List ℕ = entry (t.page % 64 / 8) t.level4 in
-        let e2 : List ℕ = entry (t.page % 8) t.level3 in
+        let e2 : List ℕ = entry (t.page % 64 % 8) t.level3 in
         let e1 : List ℕ = entry (t.block_no / 8) t.level2 in
         ap (λ (h : List ℕ). tests h h3 h2 h1 h0) held4 ∙ ap (λ (h : List ℕ). tests t.root h h2 h1 h0) held3 ∙ ap (λ (h : List ℕ). tests t.root e3 h h1 h0) held2
         ∙ ap (λ (h : List ℕ). tests t.root e3 e2 h h0) held1 ∙ ap (λ (h : List ℕ). tests t.root e3 e2 e1 h) held0

@@ -25,13 +25,12 @@ module _ (d : List ℕ → List ℕ) (law : (m : List ℕ) → length (d m) ≡ 
   level3_holds =
       ap (λ (q : NewPath). d q.level3) is ∙ sym (ap (λ (q : NewPath). entry (t.page % 64 / 8) q.level4) is ∙ entry-upper_node d law (page_roots d pages) (t.page % 64 / 8) (omega arith))
 
-  level2_holds : d t.level2 ≡ entry (t.page % 8) t.level3
+  level2_holds : d t.level2 ≡ entry (t.page % 64 % 8) t.level3
   unfolding page_root
   level2_holds =
-      let same : t.page % 8 ≡ t.page % 64 % 8 = omega arith in
       let there : t.page % 64 < length pages = omega (arith, zone.count) in
       ap (λ (q : NewPath). d q.level2) is
-      ∙ sym (ap (λ (q : NewPath). entry (t.page % 8) q.level3) is ∙ ap (λ (k : ℕ). entry k (zone_path d pages (t.page % 64) t.block_no).level3) same
+      ∙ sym (ap (λ (q : NewPath). entry (t.page % 64 % 8) q.level3) is
       ∙ entry-lower_nodes (page_roots d pages) (t.page % 64) (length-map pages (page_root d) ∙ zone.count) (page_roots_of_length d law pages) (omega arith)
       ∙ get_or-map (page_root d) pages (t.page % 64) [] [] there)
 
@@ -57,7 +56,7 @@ module _ (d : List ℕ → List ℕ) (law : (m : List ℕ) → length (d m) ≡ 
       ∙ rw (
         passes (d t.level4) t.root root_holds,
         passes (d t.level3) (entry (t.page % 64 / 8) t.level4) level3_holds,
-        passes (d t.level2) (entry (t.page % 8) t.level3) level2_holds,
+        passes (d t.level2) (entry (t.page % 64 % 8) t.level3) level2_holds,
         passes (d t.level1) (entry (t.block_no / 8) t.level2) level1_holds,
         passes (d t.block) (entry (t.block_no % 8) t.level1) block_holds,
       ) refl

@@ -1,4 +1,4 @@
-/// A block with other bytes, the four nodes over it, and the root of its zone.
+/// A block after a write, the four nodes over it, and the root of the zone.
 #[derive(Clone, Copy, PartialEq, Eq, Debug)]
 pub struct NewPath {
     pub block: [u8; 64],

@@ -9,21 +9,21 @@ use pl_digest::Digester;
 /// The bytes of a digest.
 const DIGEST_BYTES: usize = 32;
 
-/// Whether a digest is the one that a node has as this number.
-pub(crate) fn is_entry(node: &[u8; 256], number: usize, digest: &[u8; 32]) -> bool
+/// Whether a node has the digest of some bytes as this number.
+pub(crate) fn has_digest_of<D: Digester>(node: &[u8; 256], number: u16, below: &[u8]) -> bool
     requires { number < 8 }
-    ensures { result ≡ bytes_eq digest.now (entry number node.now) }
+    ensures { result ≡ bytes_eq (D.digest_of below.now) (entry number node.now) }
 {
-    let from = DIGEST_BYTES * number;
-    digest.as_slice() == &node[from..from + DIGEST_BYTES]
+    let from = DIGEST_BYTES * usize::from(number);
+    D::digest(below).as_slice() == &node[from..from + DIGEST_BYTES]
 }
 
 /// The node with the digest of some bytes as this number.
-pub(crate) fn node_over<D: Digester>(node: &[u8; 256], number: usize, below: &[u8]) -> [u8; 256]
+pub(crate) fn with_digest_of<D: Digester>(node: &[u8; 256], number: u16, below: &[u8]) -> [u8; 256]
     requires { number < 8 }
     ensures { result ≡ with_entry number (D.digest_of below.now) node.now }
 {
-    let from = DIGEST_BYTES * number;
+    let from = DIGEST_BYTES * usize::from(number);
     let mut changed = *node;
     changed[from..from + DIGEST_BYTES].copy_from_slice(&D::digest(below));
     changed

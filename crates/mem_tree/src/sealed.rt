@@ -1,4 +1,4 @@
-ghost use Rattle.std.specs.Prelude.{◌≡◌, ◌+◌, ◌*◌, ◌/◌, ◌%◌, List, ℕ};
+ghost use Rattle.std.specs.Prelude.{◌≡◌, ◌+◌, ◌*◌, ◌/◌, ◌%◌, ◌<◌, List, ℕ};
 ghost use Rattle.byteorder.specs.Endian.{little_bytes};
 ghost use Rattle.mem_geom.specs.Bytes.{with_bytes};
 ghost use Rattle.mem_tree.specs.Paths.{verdict_of, with_entry};
@@ -6,9 +6,9 @@ ghost use Rattle.mem_tree.specs.Words.{path_of, IsInRange, IsPart};
 ghost use Rattle.mem_tree.specs.Zones.{IsZone, zone_path, taken_path, with_page_part};
 
 use crate::new_path::NewPath;
-use crate::nodes::node_over;
+use crate::nodes::with_digest_of;
 use crate::part::block_with_part;
-use crate::taken::Taken;
+use crate::taken::{Taken, first_break};
 use pl_base::Place;
 use pl_digest::Digester;
 use std::marker::Model;
@@ -22,11 +22,11 @@ pub enum Verdict {
     Breaks(Place),
 }
 
-/// A path with the verdict of its check.
+/// A path, and the verdict of its check, which was made once.
 #[derive(Drop)]
 pub struct Sealed<D: Digester> {
-    pub(crate) taken: Taken<D>,
-    pub(crate) verdict: Verdict,
+    taken: Taken<D>,
+    verdict: Verdict,
 }
 
 impl<D: Digester> Model for Sealed<D> {
@@ -40,7 +40,23 @@ impl<D: Digester> Model for Sealed<D> {
     ghost invariant = { λ sealed. IsChecked D.digest_of sealed.taken sealed.verdict };
 }
 
+impl<D: Digester> Taken<D> {
+    /// Checks the path. This computes five digests, or fewer where the path breaks above its block.
+    pub fn seal(self) -> Sealed<D>
+        requires page { self.page < 4096 }
+        requires block { self.block_no < 64 }
+        ensures { result ≡ self }
+    {
+        let verdict = first_break(&self);
+        Sealed {
+            taken: self,
+            verdict,
+        }
+    }
+}
+
 impl<D: Digester> Sealed<D> {
+    /// The first place from the top that breaks, if one does.
     pub fn verdict(&self) -> Verdict
         ensures { result ≡ verdict_of D.digest_of (path_of self.now) }
     {
@@ -77,11 +93,13 @@ impl<D: Digester> Sealed<D> {
             (self.now.page % 64) self.now.block_no }
     {
         let taken = &self.taken;
+        let page = (taken.page % 64) as u16;
+        let number = u16::from(taken.block_no);
         let block = block_with_part(&taken.block, offset, width, value);
-        let level1 = node_over::<D>(&taken.level1, usize::from(taken.block_no % 8), &block);
-        let level2 = node_over::<D>(&taken.level2, usize::from(taken.block_no / 8), &level1);
-        let level3 = node_over::<D>(&taken.level3, (taken.page % 8) as usize, &level2);
-        let level4 = node_over::<D>(&taken.level4, (taken.page % 64 / 8) as usize, &level3);
+        let level1 = with_digest_of::<D>(&taken.level1, number % 8, &block);
+        let level2 = with_digest_of::<D>(&taken.level2, number / 8, &level1);
+        let level3 = with_digest_of::<D>(&taken.level3, page % 8, &level2);
+        let level4 = with_digest_of::<D>(&taken.level4, page / 8, &level3);
         let root = D::digest(&level4);
         NewPath {
             block,

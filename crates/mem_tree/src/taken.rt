@@ -2,79 +2,55 @@ ghost use Rattle.std.specs.Prelude.{◌≡◌, ◌<◌};
 ghost use Rattle.mem_tree.specs.Paths.{verdict_of};
 ghost use Rattle.mem_tree.specs.Words.{path_of};
 
-use crate::nodes::is_entry;
-use crate::sealed::{Sealed, Verdict};
+use crate::nodes::has_digest_of;
+use crate::sealed::Verdict;
 use pl_base::Place;
 use pl_digest::Digester;
 
-/// A block as taken from off-chip memory, with the four nodes over it and the root of its zone.
+/// A block and the four nodes over it, as taken from off-chip memory, and the root of the zone.
 #[derive(Clone, Copy)]
 pub struct Taken<D> {
     /// The digest function of the tree.
     pub digester: D,
-    /// The page of the block.
+    /// The page of the block, below 4,096 where it is to be sealed.
     pub page: u32,
-    /// The number of the block in its page.
+    /// The number of the block in its page, below 64 where it is to be sealed.
     pub block_no: u8,
     pub block: [u8; 64],
+    /// The node over the block, with the digests of eight blocks.
     pub level1: [u8; 256],
+    /// The node over the page.
     pub level2: [u8; 256],
+    /// The node over eight pages.
     pub level3: [u8; 256],
+    /// The node over the zone.
     pub level4: [u8; 256],
-    /// The root that the slot of the zone had.
+    /// The root of the zone, as its slot had it.
     pub root: [u8; 32],
 }
 
 /// The first place from the top that breaks.
-fn first_break<D: Digester>(taken: &Taken<D>) -> Verdict
+pub(crate) fn first_break<D: Digester>(taken: &Taken<D>) -> Verdict
     requires page { taken.now.page < 4096 }
     requires block { taken.now.block_no < 64 }
     ensures { result ≡ verdict_of D.digest_of (path_of taken.now) }
 {
     let zone = (taken.page / 64) as u8;
     let page = (taken.page % 64) as u16;
-    let group = u16::from(taken.block_no / 8);
+    let block = u16::from(taken.block_no);
     if D::digest(&taken.level4) != taken.root {
-        return Verdict::Breaks(Place::Node {
-            level: 4,
-            zone,
-            index: 0,
-        });
+        return node_breaks(4, zone, 0);
     }
-    if !is_entry(
-        &taken.level4,
-        usize::from(page / 8),
-        &D::digest(&taken.level3),
-    ) {
-        return Verdict::Breaks(Place::Node {
-            level: 3,
-            zone,
-            index: page / 8,
-        });
+    if !has_digest_of::<D>(&taken.level4, page / 8, &taken.level3) {
+        return node_breaks(3, zone, page / 8);
     }
-    if !is_entry(
-        &taken.level3,
-        usize::from(page % 8),
-        &D::digest(&taken.level2),
-    ) {
-        return Verdict::Breaks(Place::Node {
-            level: 2,
-            zone,
-            index: page,
-        });
+    if !has_digest_of::<D>(&taken.level3, page % 8, &taken.level2) {
+        return node_breaks(2, zone, page);
     }
-    if !is_entry(&taken.level2, usize::from(group), &D::digest(&taken.level1)) {
-        return Verdict::Breaks(Place::Node {
-            level: 1,
-            zone,
-            index: 8 * page + group,
-        });
+    if !has_digest_of::<D>(&taken.level2, block / 8, &taken.level1) {
+        return node_breaks(1, zone, 8 * page + block / 8);
     }
-    if !is_entry(
-        &taken.level1,
-        usize::from(taken.block_no % 8),
-        &D::digest(&taken.block),
-    ) {
+    if !has_digest_of::<D>(&taken.level1, block % 8, &taken.block) {
         return Verdict::Breaks(Place::Block {
             page: taken.page,
             block: taken.block_no,
@@ -83,17 +59,8 @@ fn first_break<D: Digester>(taken: &Taken<D>) -> Verdict
     Verdict::Holds
 }
 
-impl<D: Digester> Taken<D> {
-    /// Checks the path. This computes five digests.
-    pub fn seal(self) -> Sealed<D>
-        requires page { self.page < 4096 }
-        requires block { self.block_no < 64 }
-        ensures { result ≡ self }
-    {
-        let verdict = first_break(&self);
-        Sealed {
-            taken: self,
-            verdict,
-        }
-    }
+fn node_breaks(level: u8, zone: u8, index: u16) -> Verdict
+    ensures { result ≡ Verdict.Breaks (Place.Node level zone index) }
+{
+    Verdict::Breaks(Place::Node { level, zone, index })
 }

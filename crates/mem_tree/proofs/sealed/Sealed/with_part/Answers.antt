@@ -13,10 +13,10 @@ returns-clause-tree g c = λ pages zone before.
     let taken = c.args.self.now in
     let part : List ℕ = little_bytes c.args.width c.args.value in
     let block : c.block_with_part-block.result ≡ with_bytes taken.block c.args.offset part = search rules in
-    let level1 : c.node_over-level1.result ≡ with_entry (taken.block_no % 8) (d c.block_with_part-block.result) taken.level1 = search rules in
-    let level2 : c.node_over-level2.result ≡ with_entry (taken.block_no / 8) (d c.node_over-level1.result) taken.level2 = search rules in
-    let level3 : c.node_over-level3.result ≡ with_entry (taken.page % 8) (d c.node_over-level2.result) taken.level3 = search rules in
-    let level4 : c.node_over-level4.result ≡ with_entry (taken.page % 64 / 8) (d c.node_over-level3.result) taken.level4 = search rules in
+    let level1 : c.with_digest_of-level1.result ≡ with_entry (taken.block_no % 8) (d c.block_with_part-block.result) taken.level1 = search rules in
+    let level2 : c.with_digest_of-level2.result ≡ with_entry (taken.block_no / 8) (d c.with_digest_of-level1.result) taken.level2 = search rules in
+    let level3 : c.with_digest_of-level3.result ≡ with_entry (taken.page % 8) (d c.with_digest_of-level2.result) taken.level3 = search rules in
+    let level4 : c.with_digest_of-level4.result ≡ with_entry (taken.page % 64 / 8) (d c.with_digest_of-level3.result) taken.level4 = search rules in
     let same : taken.page % 8 ≡ taken.page % 64 % 8 = omega arith in
     let inside : c.args.offset + length part ≤ 64 = omega (arith, length-bytes_low_first 0 c.args.width c.args.value, c.requires.part.is_inside) in
     let in_zone : taken.page % 64 < 64 = omega arith in
@@ -25,10 +25,10 @@ returns-clause-tree g c = λ pages zone before.
     (taken_path taken)
     (record {
       block = c.block_with_part-block.result;
-      level1 = c.node_over-level1.result;
-      level2 = c.node_over-level2.result;
-      level3 = c.node_over-level3.result;
-      level4 = c.node_over-level4.result;
+      level1 = c.with_digest_of-level1.result;
+      level2 = c.with_digest_of-level2.result;
+      level3 = c.with_digest_of-level3.result;
+      level4 = c.with_digest_of-level4.result;
       root = c.digest-root.result;
     })
-    before block level1 level2 (level3 ∙ ap (λ (k : ℕ). with_entry k (d c.node_over-level2.result) taken.level3) same) level4 c.digest-root.ensures
+    before block level1 level2 (level3 ∙ ap (λ (k : ℕ). with_entry k (d c.with_digest_of-level2.result) taken.level3) same) level4 c.digest-root.ensures
