@@ -1,4 +1,4 @@
--- Paths of places, and the digests held above them: a path through a Merkle tree, from the top.
+-- Paths of places from the top of a Merkle tree (R. C. Merkle, CRYPTO 1987), and the digests held above them.
 use Rattle.std.specs.Prelude.{ℕ, ◌*◌, ◌==◌, ◌&&◌, Bool, false, not, List, [], ◌∷◌, find, if◌then◌else◌}
 use Rattle.std.specs.Option.{option_map_or}
 use Rattle.std.specs.Str.{bytes_eq}

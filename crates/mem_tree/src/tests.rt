@@ -65,6 +65,13 @@ fn zero_path() -> Taken<Sha>
     }
 }
 
+// A sealed path may go to another thread.
+fn sent<T: Send>(value: T) -> T
+    ensures { result ≡ value }
+{
+    value
+}
+
 #[test]
 fn a_zero_page_has_the_nodes_of_a_plain_loop(rt: HostRuntime) {
     let mut level1 = [0; 2048];
@@ -134,7 +141,7 @@ fn a_path_breaks_at_the_first_changed_place(rt: HostRuntime) {
 
 #[test]
 fn a_part_changes_the_path_up_to_the_root(rt: HostRuntime) {
-    let sealed = zero_path().seal();
+    let sealed = sent(zero_path().seal());
     assert_eq!(rt; sealed.taken().page, 229);
     match sealed.verdict() {
         Verdict::Holds => {

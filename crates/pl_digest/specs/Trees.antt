@@ -1,5 +1,4 @@
--- Hash trees over 64 leaves, eight under each node (a Merkle tree; R. C. Merkle, US patent 4,309,569), for any digest
--- function.
+-- Hash trees over 64 leaves, eight under each node, for any digest function (Merkle trees: R. C. Merkle, CRYPTO 1987).
 use Rattle.std.specs.Prelude.{ℕ, ◌*◌, List, map, take, drop}
 use Rattle.std.specs.List.{concat, range_with_len}
 
