@@ -1,5 +1,4 @@
--- Hash trees over 64 leaves, eight under each node (a Merkle tree; R. C. Merkle, US patent 4,309,569), for any digest
--- function.
+-- Hash trees over 64 leaves, eight under each node, for any digest function (Merkle trees: R. C. Merkle, CRYPTO 1987).
 use Rattle.std.specs.Prelude.{ℕ, ◌*◌, List, map, take, drop}
 use Rattle.std.specs.List.{concat, range_with_len}
 
@@ -25,17 +24,23 @@ module _ (digest_of : List ℕ → List ℕ) where
   upper_node digests = concat (map digest_of (lower_nodes digests))
 
   -- the root over 64 digests
-  unfoldable pub tree_root : List (List ℕ) → List ℕ
+  abbrev pub tree_root : List (List ℕ) → List ℕ
   tree_root digests = digest_of (upper_node digests)
 
-  -- the root of a page: of the digests of its blocks
-  abbrev pub page_root : List ℕ → List ℕ
-  page_root page = tree_root (map digest_of (blocks page))
+  -- the digests of a page's blocks, and its root over them
+  abbrev pub block_digests : List ℕ → List (List ℕ)
+  block_digests page = map digest_of (blocks page)
 
-  -- the root of a zone: of the roots of its 64 pages
-  abbrev pub zone_root : List (List ℕ) → List ℕ
-  zone_root pages = tree_root (map page_root pages)
+  unfoldable pub page_root : List ℕ → List ℕ
+  page_root page = tree_root (block_digests page)
 
-  -- the root of the root table: of its 64 entries
-  abbrev pub table_root : List (List ℕ) → List ℕ
+  -- the roots of a zone's 64 pages, and its root over them
+  abbrev pub page_roots : List (List ℕ) → List (List ℕ)
+  page_roots pages = map page_root pages
+
+  unfoldable pub zone_root : List (List ℕ) → List ℕ
+  zone_root pages = tree_root (page_roots pages)
+
+  -- the root over the 64 entries of the root table
+  unfoldable pub table_root : List (List ℕ) → List ℕ
   table_root entries = tree_root entries

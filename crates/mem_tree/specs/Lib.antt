@@ -1,0 +1,4 @@
+pub mod Checks
+pub mod Paths
+pub mod Words
+pub mod Zones

@@ -1,0 +1,21 @@
+//! A path through the tree of a zone: its check, the path after a write, and the nodes over a page.
+//!
+//! Each node is eight digests of 32 bytes. A node of level 1 has the digests of eight blocks, and each node above it
+//! those of eight nodes.
+#![tactic(auto)]
+
+mod laws;
+mod new_path;
+mod nodes;
+mod part;
+mod sealed;
+mod taken;
+
+pub use laws::{differences_collide, word_paths_hold};
+pub use new_path::NewPath;
+pub use nodes::{digest_pieces, page_nodes};
+pub use sealed::{Sealed, Verdict};
+pub use taken::Taken;
+
+#[cfg(test)]
+mod tests;
