@@ -1,5 +1,5 @@
 -- Every line that a text gives is of one of the two forms.
-use Rattle.std.proofs.Common.{◌≡◌, ℕ, suc, ◌≤◌, ◌&&◌, ◌==◌, nat_le, nat_lt, le-leb, Bool, true, false, List, [], ◌∷◌, length, drop, nat_eq, codes, Option, Some, None, option_map, option_and_then, if◌then◌else◌, refl, sym, ap, ◌∙◌, subst, arith}
+use Rattle.std.proofs.Common.{◌≡◌, ℕ, suc, ◌&&◌, nat_le, nat_lt, Bool, true, false, List, [], ◌∷◌, length, drop, nat_eq, codes, Option, Some, None, option_map, option_and_then, if◌then◌else◌, refl, ap, subst}
 use Rattle.std.specs.List.{list_all, starts_with}
 use Rattle.std.specs.Str.{bytes_eq}
 use Rattle.std.proofs.lemmas.Option.{option_and_then_some, same_Some}

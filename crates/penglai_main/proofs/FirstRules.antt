@@ -1,11 +1,10 @@
 -- The first two rules, from what `toml` says.
-use Rattle.std.proofs.Common.{◌≡◌, ℕ, ◌≤◌, Bool, true, false, List, length, nat_le, le-leb, Option, Some, None, Result, Ok, Err, IsTrue, ◌↔◌, refl, sym, ap, ◌∙◌, subst}
+use Rattle.std.proofs.Common.{◌≡◌, ℕ, ◌≤◌, Bool, true, false, List, length, le-leb, Some, None, Err, IsTrue, ◌↔◌, refl}
 use Rattle.std.specs.Str.{is_utf8, IsUtf8}
 use Rattle.std.proofs.lemmas.Str.{IsUtf8-from_is_utf8, is_utf8-from_IsUtf8}
 use Rattle.toml.specs.Data.{Members}
 use Rattle.toml.specs.Parse.{parse_document}
-use Rattle.penglai_main.specs.Walk.{table_of}
-use Rattle.penglai_main.specs.Form.{setup_of, some_of, form_of, Checked}
+use Rattle.penglai_main.specs.Form.{setup_of, some_of, form_of}
 
 pub setup_of-table : (bytes : List ℕ) (t : Members) → length bytes ≤ 16777216 → IsUtf8 bytes → parse_document bytes ≡ Some t → setup_of bytes ≡ some_of (form_of t) 99
 setup_of-table bytes t short text parsed = rw (le-leb (length bytes) 16777216 short, is_utf8-from_IsUtf8 bytes text, parsed)

@@ -1,5 +1,5 @@
 -- Legal histories grow by an answer at a time.
-use Rattle.std.proofs.Common.{◌≡◌, ℕ, Bool, List, [], ◌∷◌, ◌++◌, Some, slice_get, refl, sym, ap, ◌∙◌, subst}
+use Rattle.std.proofs.Common.{◌≡◌, ℕ, List, [], ◌∷◌, ◌++◌, Some, slice_get, refl, sym, ap, ◌∙◌, subst}
 use Rattle.std.specs.Option.{option_map_or}
 use Rattle.penglai_main.specs.declared.setup.Line.{Line}
 use Rattle.penglai_main.specs.declared.history.Answer.{Answer}

@@ -1,5 +1,5 @@
 -- A line of the script is answered as the abstract monitor allows.
-use Rattle.std.proofs.Common.{◌≡◌, ◌≢◌, ◌⊎◌, inl, inr, ℕ, zero, suc, ◌+◌, ◌==◌, Bool, true, false, not, ◌&&◌, nat_le, if◌then◌else◌, List, [], ◌∷◌, ◌++◌, Some, None, slice_get, refl, sym, ap, ◌∙◌, subst}
+use Rattle.std.proofs.Common.{◌≡◌, ◌≢◌, ◌⊎◌, inl, inr, ℕ, ◌+◌, ◌==◌, Bool, true, false, ◌&&◌, nat_le, if◌then◌else◌, List, [], ◌∷◌, ◌++◌, Some, None, slice_get, refl, sym, ap, ◌∙◌, subst}
 use Rattle.std.proofs.lemmas.Bool.{eqb-true}
 use Rattle.pl_base.specs.declared.number.EncNo.{EncNo}
 use Rattle.pl_base.specs.declared.refusal.No.{No}
@@ -8,7 +8,7 @@ use Rattle.pl_base.specs.declared.state.State.{State}
 use Rattle.pl_base.specs.declared.state.State.TheVariants.{Free, Building, Fresh, On, Paused, Ended, Trapped, Faulted, Dying, Sealed}
 use Rattle.pl_base.specs.declared.state.Why.{Why}
 use Rattle.pl_base.specs.declared.state.Why.TheVariants as why_is
-use Rattle.rv_alone.specs.Flat.{Flat, start_of}
+use Rattle.rv_alone.specs.Flat.{start_of}
 use Rattle.penglai_main.specs.declared.enclave.Enclave.{Enclave}
 use Rattle.penglai_main.specs.declared.history.Answer.{Answer}
 use Rattle.penglai_main.specs.declared.history.Answer.TheVariants as answer_is
@@ -19,9 +19,9 @@ use Rattle.penglai_main.specs.Setup.{image_of, first_setup, is_first_line}
 use Rattle.penglai_main.specs.Enclave.{flat_of}
 use Rattle.penglai_main.specs.Monitor.{Monitor, Progress, host, begin, answer}
 use Rattle.penglai_main.specs.Making.{is_free, create_refusal, building, made}
-use Rattle.penglai_main.specs.Running.{MayLeave, is_absent, is_fresh, run_refusal, entered, state_left, left}
+use Rattle.penglai_main.specs.Running.{MayLeave, run_refusal, entered, state_left, left}
 use Rattle.penglai_main.specs.Legal.{AllowedAnswer, after_answer, legal_state}
-use Rattle.penglai_main.specs.Follows.{answered_by_hart_0, IsAtStart, Agrees, Follows, entry_of}
+use Rattle.penglai_main.specs.Follows.{Agrees, Follows, entry_of}
 use Rattle.penglai_main.proofs.Parts.{both_parts}
 use Rattle.penglai_main.proofs.Histories.{Answers, Extended, extended}
 

@@ -1,5 +1,5 @@
 -- A walk over the keys of a table.
-use Rattle.std.proofs.Common.{◌≡◌, ℕ, Bool, true, false, ◌&&◌, List, [], ◌∷◌, map, String, BTreeMap, Global, string_bytes, Bor, refl, sym, ap, ◌∙◌}
+use Rattle.std.proofs.Common.{◌≡◌, ℕ, Bool, true, false, List, ◌∷◌, map, String, BTreeMap, Global, string_bytes, Bor, sym, ap, ◌∙◌}
 use Rattle.std.specs.BTreeMap.{keys}
 use Rattle.std.specs.List.{list_all, list_any}
 use Rattle.std.specs.Str.{bytes_eq}

@@ -1,11 +1,11 @@
 -- A run that goes on by one instruction, ends, or spends its budget.
-use Rattle.std.proofs.Common.{◌≡◌, ℕ, ◌+◌, ◌<◌, ◌≤◌, ◌==◌, true, List, Some, refl, sym, ap, ◌∙◌, subst, arith, add_assoc, eqb}
+use Rattle.std.proofs.Common.{◌≡◌, ℕ, ◌+◌, ◌<◌, ◌==◌, true, List, Some, ap, ◌∙◌, subst, arith, add_assoc}
 use Rattle.std.proofs.lemmas.Bool.Decides.{nat_tests}
 use Rattle.pl_base.specs.declared.state.Why.TheVariants.{Ended, Budget}
 use Rattle.rv_alone.specs.declared.step.Act.{Act}
 use Rattle.rv_alone.specs.Effect.{act_of}
 use Rattle.rv_alone.specs.Flat.{Image, Flat, Status, on, ended, fetched}
-use Rattle.rv_alone.specs.Alone.{Outcome, one, runs, acts, context_of, next, alone}
+use Rattle.rv_alone.specs.Alone.{one, runs, acts, context_of, next, alone}
 use Rattle.rv_alone.proofs.AloneLemmas.{alone_more}
 use Rattle.penglai_main.specs.Running.{reason, MayLeave}
 

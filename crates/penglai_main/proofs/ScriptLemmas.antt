@@ -1,19 +1,18 @@
 -- The beginning and the end of a script.
-use Rattle.std.proofs.Common.{◌≡◌, ◌≢◌, ℕ, zero, suc, ◌+◌, ◌≤◌, ◌<◌, ◌==◌, ◌&&◌, nat_le, Bool, true, false, if◌then◌else◌, List, [], ◌∷◌, length, Option, Some, None, slice_get, unwrap_or, get_or, refl, sym, ap, ◌∙◌, subst, arith}
+use Rattle.std.proofs.Common.{◌≡◌, ℕ, zero, suc, ◌<◌, ◌==◌, ◌&&◌, nat_le, Bool, true, false, if◌then◌else◌, List, [], ◌∷◌, length, Some, slice_get, get_or, refl, sym, ap, ◌∙◌, subst, arith}
 use Rattle.std.specs.List.{list_all}
 use Rattle.std.proofs.lemmas.Bool.Decides.{nat_tests}
 use Rattle.std.proofs.lemmas.Option.{slice_get-get_or, same_Some}
 use Rattle.penglai_main.proofs.Parts.{both_parts}
-use Rattle.pl_base.specs.declared.state.State.{State}
 use Rattle.pl_base.specs.declared.state.State.TheVariants.{Free, Fresh}
 use Rattle.penglai_main.specs.declared.enclave.Enclave.{Enclave}
 use Rattle.penglai_main.specs.declared.history.Entry.{Entry}
 use Rattle.penglai_main.specs.declared.setup.Line.{Line}
 use Rattle.penglai_main.specs.Setup.{image_of, first_setup, is_first_line, is_first_setup}
 use Rattle.penglai_main.specs.Enclave.{flat_of}
-use Rattle.penglai_main.specs.Monitor.{Monitor, Progress, opening, script_of}
-use Rattle.penglai_main.specs.Legal.{Legal, legal_state, AllAnswered}
-use Rattle.penglai_main.specs.Follows.{answered_by_hart_0, Agrees, Follows}
+use Rattle.penglai_main.specs.Monitor.{Progress, opening, script_of}
+use Rattle.penglai_main.specs.Legal.{AllAnswered}
+use Rattle.penglai_main.specs.Follows.{Agrees, Follows}
 
 none_answered : (test : Bool) → ◌≡◌ {A = Progress} (record { answered = 0; begun = false }) (record { answered = if test then 0 else 0; begun = false })
 none_answered true = refl

@@ -1,10 +1,8 @@
 -- The items and the keys of a table of `toml`, beside its data.
-use Rattle.std.specs.List.{list_any, list_all}
-use Rattle.std.proofs.Common.{◌≡◌, ℕ, Bool, ◌||◌, ◌&&◌, suc, length, List, [], ◌∷◌, map, Option, Some, None, option_map, String, Vec, BTreeMap, Global, string_bytes, Bor, refl, sym, ap, ◌∙◌}
-use Rattle.toml.specs.Data.{Data, array}
-use Rattle.toml.specs.View.{view, items_view, members_view, table_view}
-use Rattle.toml.proofs.Views.{view-Array}
-use Rattle.toml.specs.declared.value.Value.{Value, Array}
+use Rattle.std.specs.List.{list_any}
+use Rattle.std.proofs.Common.{◌≡◌, ℕ, Bool, ◌||◌, List, [], ◌∷◌, map, String, Global, string_bytes, Bor, refl, ap}
+use Rattle.toml.specs.View.{view, items_view, members_view}
+use Rattle.toml.specs.declared.value.Value.{Value}
 use Rattle.penglai_main.specs.Walk.{list_of, keys_of}
 
 pub list_of-view : (vs : List Value) → list_of (items_view vs) ≡ map view vs

@@ -1,5 +1,5 @@
 -- How the answer of `read_setup` follows from the setup that a text is.
-use Rattle.std.specs.Prelude.{◌≡◌, ⊤, ℕ, Result, Ok, Err}
+use Rattle.std.specs.Prelude.{◌≡◌, ⊤, Result, Ok, Err}
 use Rattle.penglai_main.specs.declared.setup.SetupFault.{SetupFault}
 use Rattle.penglai_main.specs.declared.setup.SetupFault.TheVariants.{Memory, Bad}
 use Rattle.penglai_main.specs.Form.{Checked}

@@ -7,7 +7,7 @@ use Rattle.penglai_main.specs.declared.enclave.Enclave.{Enclave}
 use Rattle.penglai_main.specs.declared.history.Answer.{Answer}
 use Rattle.penglai_main.specs.declared.history.Entry.{Entry}
 use Rattle.penglai_main.specs.declared.setup.Line.{Line}
-use Rattle.penglai_main.specs.Setup.{SetupData, image_of, first_setup, is_first_line}
+use Rattle.penglai_main.specs.Setup.{image_of, first_setup, is_first_line}
 use Rattle.penglai_main.specs.Enclave.{flat_of}
 use Rattle.penglai_main.specs.Monitor.{Number, Monitor, Progress, host}
 use Rattle.penglai_main.specs.Legal.{Legal, legal_state}

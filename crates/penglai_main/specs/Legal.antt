@@ -1,7 +1,6 @@
 -- Legal histories: each answer is one that the abstract monitor allows, in the state that those before it give.
-use Rattle.std.specs.Prelude.{◌≡◌, ℕ, Bool, List, [], ◌∷◌, length, slice_get, Option, Some, None, IfSome}
+use Rattle.std.specs.Prelude.{◌≡◌, ℕ, Bool, List, [], ◌∷◌, length, slice_get, Some}
 use Rattle.std.specs.Option.{option_map_or}
-use Rattle.pl_base.specs.declared.number.EncNo.{EncNo}
 use Rattle.penglai_main.specs.declared.setup.Line.{Line}
 use Rattle.penglai_main.specs.declared.setup.Line.TheVariants.{Create, Run}
 use Rattle.penglai_main.specs.declared.history.Answer.{Answer}

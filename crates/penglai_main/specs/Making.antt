@@ -9,7 +9,7 @@ use Rattle.pl_base.specs.declared.state.State.TheVariants.{Free, Building, Fresh
 use Rattle.penglai_main.specs.declared.history.Answer.{Answer}
 use Rattle.penglai_main.specs.declared.history.Answer.TheVariants as answer_is
 use Rattle.penglai_main.specs.Setup.{SetupData}
-use Rattle.penglai_main.specs.Monitor.{Owner, host, number, Number, Monitor, free_number, image_at, with_number}
+use Rattle.penglai_main.specs.Monitor.{Owner, host, number, Monitor, free_number, image_at, with_number}
 use Rattle.penglai_main.specs.Refusals.{refuse, first_refusal}
 
 abbrev pub is_free : State → Bool

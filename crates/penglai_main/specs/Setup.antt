@@ -1,7 +1,6 @@
 -- What contracts see of a setup, and the one form of it that is built.
-use Rattle.std.specs.Prelude.{ℕ, ◌==◌, ◌&&◌, nat_le, Bool, true, false, List, [], ◌∷◌, length}
+use Rattle.std.specs.Prelude.{ℕ, ◌==◌, ◌&&◌, nat_le, Bool, false, List, [], ◌∷◌, length}
 use Rattle.std.specs.List.{list_all}
-use Rattle.pl_base.specs.declared.perms.Perms.{Perms}
 use Rattle.rv_alone.specs.Flat.{Image, Page, first_address}
 use Rattle.penglai_main.specs.declared.setup.ChoiceName.{ChoiceName}
 use Rattle.penglai_main.specs.declared.setup.ChoiceName.TheVariants.{Oldest}

@@ -1,6 +1,6 @@
 -- What the top call read and wrote, for each status that it ends with. The counts of faults and the bytes are those of
 -- the source and the sink that it was handed, where these tell them.
-use Rattle.std.specs.Prelude.{◌≡◌, ◌≤◌, ◌⊎◌, ⊤, ℕ, Bool, true, false, List, [], ◌∷◌, ◌++◌, codes, decimal, Option, Some, IfSome, Ok, Err}
+use Rattle.std.specs.Prelude.{◌≡◌, ◌≤◌, ◌⊎◌, ℕ, Bool, false, List, [], ◌∷◌, ◌++◌, codes, decimal, Option, IfSome, Ok, Err}
 use Rattle.std.specs.Io.KnownBytes.{Appends, IsAtEnd}
 use Rattle.std.specs.Str.{bytes_eq}
 use Rattle.pl_io.specs.Causes.{Rose}

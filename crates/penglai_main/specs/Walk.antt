@@ -1,8 +1,8 @@
 -- Walks over the untyped data that `toml` parses a text to.
-use Rattle.std.specs.Prelude.{ℕ, pos, ◌==◌, Bool, true, false, List, [], ◌∷◌, length, Option, Some, None, option_and_then, if◌then◌else◌}
+use Rattle.std.specs.Prelude.{ℕ, pos, ◌==◌, Bool, false, List, [], ◌∷◌, Option, Some, None, option_and_then, if◌then◌else◌}
 use Rattle.std.specs.List.{list_all, list_any}
 use Rattle.std.specs.Str.{bytes_eq, is_utf8}
-use Rattle.toml.specs.Data.{Data, string, integer, array, table, Items, no_items, item, Members, no_members, member, get_member, as_table}
+use Rattle.toml.specs.Data.{Data, string, integer, array, Items, no_items, item, Members, no_members, member, as_table}
 use Rattle.toml.specs.Parse.{parse_document}
 
 -- the table of a text, which is UTF-8

@@ -1,4 +1,4 @@
-use Rattle.std.proofs.Common.{◌≡◌, ◌++◌, ◌∷◌, [], List, sym, ap, ◌∙◌, subst, ◌+◌}
+use Rattle.std.proofs.Common.{◌++◌, ◌∷◌, [], List, sym, subst, ◌+◌}
 use Rattle.penglai_main.specs.declared.history.Answer.TheVariants as answer_is
 use Rattle.penglai_main.specs.declared.history.Entry.{Entry}
 use Rattle.penglai_main.specs.Follows.{Follows, entry_of}

@@ -1,7 +1,6 @@
-use Rattle.std.proofs.Common.{[], ◌∷◌, Some, refl, sym, ap, ◌∙◌, arith}
+use Rattle.std.proofs.Common.{[], Some, refl, sym, ap, ◌∙◌, arith}
 use Rattle.rv_alone.proofs.AloneLemmas.{alone_none}
-use Rattle.penglai_main.specs.Setup.{code_page, image_of}
-use Rattle.penglai_main.specs.Enclave.{flat_of}
+use Rattle.penglai_main.specs.Setup.{image_of}
 use Rattle.penglai_main.proofs.RunLemmas.{run_more, leave_ended, leave_budget}
 use Rattle.penglai_main.proofs.enclave.Enclave.proceed.Goals as goal
 
