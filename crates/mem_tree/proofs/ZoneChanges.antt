@@ -51,28 +51,26 @@ module _ (d : List ℕ → List ℕ) (law : (m : List ℕ) → length (d m) ≡ 
   page_roots_of_length pages = All-map (λ (xs : List ℕ). length xs ≡ 32) (page_root d) pages (λ k e h. law _)
 
   module _ (pages : List (List ℕ)) (zone : IsZone pages) (p b at : ℕ) (bytes : List ℕ) (in_zone : p < 64) (in_page : b < 64) (in_block : at + length bytes ≤ 64) where
-    old_page : List ℕ
+    abbrev pub old_page : List ℕ
     old_page = nth pages p
 
-    new_page : List ℕ
+    abbrev pub new_page : List ℕ
     new_page = with_bytes (nth pages p) (64 * b + at) bytes
 
     there : p < length pages
     there = omega (arith, zone.count)
 
     page_is : nth (with_page_part pages p (64 * b + at) bytes) p ≡ new_page
-    unfolding new_page
     page_is = get_or-set_same pages p new_page [] there
 
     -- the digests of the page's blocks, and the roots of the pages
-    digests_are : block_digests d new_page ≡ set (block_digests d old_page) b (d (with_bytes (piece 64 b old_page) at bytes))
-    unfolding new_page old_page
-    digests_are =
+    pub block_digests-new_page : block_digests d new_page ≡ set (block_digests d old_page) b (d (with_bytes (piece 64 b old_page) at bytes))
+    block_digests-new_page =
         ap (map d) (blocks-with_bytes old_page b at bytes (zone.sizes p [] there) in_page in_block) ∙ map-set d (blocks old_page) b (with_bytes (piece 64 b old_page) at bytes)
 
-    roots_are : page_roots d (with_page_part pages p (64 * b + at) bytes) ≡ set (page_roots d pages) p (d (upper_node d (block_digests d new_page)))
-    unfolding new_page page_root
-    roots_are = map-set (page_root d) pages p new_page
+    pub page_roots-with_page_part : page_roots d (with_page_part pages p (64 * b + at) bytes) ≡ set (page_roots d pages) p (d (upper_node d (block_digests d new_page)))
+    unfolding page_root
+    page_roots-with_page_part = map-set (page_root d) pages p new_page
 
     digest_count : length (block_digests d old_page) ≡ 64
     digest_count = length-map (blocks old_page) d ∙ length-pieces 64 64 old_page
@@ -85,7 +83,7 @@ module _ (d : List ℕ → List ℕ) (law : (m : List ℕ) → length (d m) ≡ 
         → y.level1 ≡ with_entry (b % 8) (d y.block) x.level1 → y.level2 ≡ with_entry (b / 8) (d y.level1) x.level2
         → y.level3 ≡ with_entry (p % 8) (d y.level2) x.level3 → y.level4 ≡ with_entry (p / 8) (d y.level3) x.level4 → y.root ≡ d y.level4
         → y ≡ zone_path d (with_page_part pages p (64 * b + at) bytes) p b
-    unfolding new_page old_page zone_root
+    unfolding zone_root
     zone_path-with_page_part x y before block level1 level2 level3 level4 root =
         let pages' : List (List ℕ) = with_page_part pages p (64 * b + at) bytes in
         let digests : List (List ℕ) = block_digests d old_page in
@@ -100,17 +98,17 @@ module _ (d : List ℕ → List ℕ) (law : (m : List ℕ) → length (d m) ≡ 
         let is_level1 : y.level1 ≡ changed_node digests b (d new_block) =
         level1 ∙ ap (λ (q : List ℕ). with_entry (b % 8) (d q) x.level1) is_block ∙ ap (λ (q : NewPath). with_entry (b % 8) (d new_block) q.level1) before in
         let on_level1 : y.level1 ≡ nth (lower_nodes (block_digests d new_page)) (b / 8) =
-        is_level1 ∙ sym (ap (λ (ds : List (List ℕ)). nth (lower_nodes ds) (b / 8)) digests_are ∙ nth-lower_nodes-set digests b (d new_block) digest_count digest_sizes (law new_block) in_page) in
+        is_level1 ∙ sym (ap (λ (ds : List (List ℕ)). nth (lower_nodes ds) (b / 8)) block_digests-new_page ∙ nth-lower_nodes-set digests b (d new_block) digest_count digest_sizes (law new_block) in_page) in
         let on_level2 : y.level2 ≡ upper_node d (block_digests d new_page) =
         level2 ∙ ap (λ (q : List ℕ). with_entry (b / 8) (d q) x.level2) is_level1 ∙ ap (λ (q : NewPath). with_entry (b / 8) (d (changed_node digests b (d new_block))) q.level2) before
-        ∙ sym (ap (upper_node d) digests_are ∙ upper_node-set digests b (d new_block) digest_count digest_sizes (law new_block) in_page d law) in
+        ∙ sym (ap (upper_node d) block_digests-new_page ∙ upper_node-set digests b (d new_block) digest_count digest_sizes (law new_block) in_page d law) in
         let is_level3 : y.level3 ≡ changed_node roots p new_root =
         level3 ∙ ap (λ (q : List ℕ). with_entry (p % 8) (d q) x.level3) on_level2 ∙ ap (λ (q : NewPath). with_entry (p % 8) new_root q.level3) before in
         let on_level3 : y.level3 ≡ nth (lower_nodes (page_roots d pages')) (p / 8) =
-        is_level3 ∙ sym (ap (λ (ds : List (List ℕ)). nth (lower_nodes ds) (p / 8)) roots_are ∙ nth-lower_nodes-set roots p new_root root_count root_sizes (law _) in_zone) in
+        is_level3 ∙ sym (ap (λ (ds : List (List ℕ)). nth (lower_nodes ds) (p / 8)) page_roots-with_page_part ∙ nth-lower_nodes-set roots p new_root root_count root_sizes (law _) in_zone) in
         let on_level4 : y.level4 ≡ upper_node d (page_roots d pages') =
         level4 ∙ ap (λ (q : List ℕ). with_entry (p / 8) (d q) x.level4) is_level3 ∙ ap (λ (q : NewPath). with_entry (p / 8) (d (changed_node roots p new_root)) q.level4) before
-        ∙ sym (ap (upper_node d) roots_are ∙ upper_node-set roots p new_root root_count root_sizes (law _) in_zone d law) in
+        ∙ sym (ap (upper_node d) page_roots-with_page_part ∙ upper_node-set roots p new_root root_count root_sizes (law _) in_zone d law) in
         let same_page : new_page ≡ nth pages' p = sym page_is in
         same_paths y (zone_path d pages' p b)
         (on_block ∙ ap (piece 64 b) same_page)

@@ -23,7 +23,7 @@ path_of taken = record {
       ∷ [];
 }
 
--- its page and its block can be
+-- its page is one of 64 zones, and its block one of the page
 pub record IsInRange {D : Type 0} (taken : Taken D) : Type 0 where
   pub page : taken.page < 4096
   pub block : taken.block_no < 64
