@@ -1,1 +1,3 @@
 pub mod Perms
+pub mod Refusals
+pub mod States

@@ -1,0 +1,39 @@
+-- Which states of an enclave number let a line through, and the state in which a run leaves it.
+use Rattle.std.specs.Prelude.{Bool, true, false}
+use Rattle.pl_base.specs.declared.state.State.{State}
+use Rattle.pl_base.specs.declared.state.State.TheVariants as state_is
+use Rattle.pl_base.specs.declared.state.Why.{Why}
+use Rattle.pl_base.specs.declared.state.Why.TheVariants.{Ended, Trapped, Fault}
+
+abbrev pub is_free : State → Bool
+is_free state_is.Free = true
+is_free _ = false
+
+abbrev pub is_fresh : State → Bool
+is_fresh state_is.Fresh = true
+is_fresh _ = false
+
+abbrev pub is_paused : State → Bool
+is_paused state_is.Paused = true
+is_paused _ = false
+
+-- free or sealed: there is no enclave to run
+abbrev pub is_absent : State → Bool
+is_absent state_is.Free = true
+is_absent state_is.Sealed = true
+is_absent _ = false
+
+-- free, sealed, building or dying: no word goes in or out
+abbrev pub is_wordless : State → Bool
+is_wordless state_is.Free = true
+is_wordless state_is.Sealed = true
+is_wordless state_is.Building = true
+is_wordless state_is.Dying = true
+is_wordless _ = false
+
+-- the state in which a run leaves its enclave
+abbrev pub state_left : Why → State
+state_left (Ended code) = state_is.Ended
+state_left (Trapped cause value) = state_is.Trapped
+state_left (Fault place) = state_is.Faulted
+state_left _ = state_is.Paused
