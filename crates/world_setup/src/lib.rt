@@ -1,0 +1,2 @@
+//! A setup from its text: the first rule that fails, or the setup.
+#![tactic(auto)]
