@@ -1,1 +1,6 @@
 pub mod Rules
+pub mod Monitor
+pub mod Making
+pub mod Running
+pub mod Words
+pub mod Legal
