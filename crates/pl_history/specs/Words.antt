@@ -1,5 +1,5 @@
 -- Words in and out: `send` and `take`.
-use Rattle.std.specs.Prelude.{◌≡◌, ℕ, ◌+◌, nat_le, Bool, false, List, [], ◌∷◌, ◌++◌, length, slice_get, Option, Some, None, option_and_then}
+use Rattle.std.specs.Prelude.{◌≡◌, ℕ, ◌+◌, ◌==◌, Bool, false, List, [], ◌∷◌, ◌++◌, length, slice_get, Option, Some, None, option_and_then}
 use Rattle.std.specs.Option.{option_map_or}
 use Rattle.pl_base.specs.declared.refusal.No.{No}
 use Rattle.pl_base.specs.declared.refusal.No.TheVariants.{NoEnclave, Full, Empty}
@@ -21,11 +21,11 @@ sent_out setup n = option_map_or (λ a. a.out) (option_and_then (λ image. alone
 
 -- why no word can be sent to a number: no words go in or out, or it was sent as many as it may be
 abbrev pub send_refusal : Number → Option No
-send_refusal n = first_refusal (refuse (is_wordless n.state) NoEnclave ∷ refuse (nat_le most_sent (length n.sent)) Full ∷ [])
+send_refusal n = first_refusal (refuse (is_wordless n.state) NoEnclave ∷ refuse (length n.sent == most_sent) Full ∷ [])
 
 -- why no word can be taken: no words go in or out, or all that it sent out are taken
 abbrev pub take_refusal : SetupParts → Number → Option No
-take_refusal setup n = first_refusal (refuse (is_wordless n.state) NoEnclave ∷ refuse (nat_le (length (sent_out setup n)) n.taken) Empty ∷ [])
+take_refusal setup n = first_refusal (refuse (is_wordless n.state) NoEnclave ∷ refuse (n.taken == length (sent_out setup n)) Empty ∷ [])
 
 -- done where nothing refuses it
 abbrev pub AllowedSend : Number → Bool → Answer → Type 0
