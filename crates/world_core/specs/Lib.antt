@@ -1,0 +1,4 @@
+pub mod Memory
+pub mod Owners
+pub mod Pages
+pub mod Steps
