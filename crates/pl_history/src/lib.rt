@@ -12,3 +12,6 @@ pub use history::History;
 pub use line::{AttackLine, Line};
 pub use printing::{put_done, put_entry, put_history, put_output};
 pub use setup::{ChoiceName, Setup, SetupParts};
+
+#[cfg(test)]
+mod tests;
