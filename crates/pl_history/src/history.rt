@@ -56,7 +56,7 @@ impl History {
     /// The entries, the first first.
     pub fn entries(&self) -> &[Entry]
         ensures entries { result.now ≡ self.now.entries }
-        ensures parts { IsHistory self.now }
+        ensures rules { IsHistory self.now }
     {
         self.entries.as_slice()
     }
@@ -64,7 +64,7 @@ impl History {
     /// The bytes that entries name parts of.
     pub fn bytes(&self) -> &[u8]
         ensures bytes { result.now ≡ self.now.bytes }
-        ensures parts { IsHistory self.now }
+        ensures rules { IsHistory self.now }
     {
         self.bytes.as_slice()
     }
