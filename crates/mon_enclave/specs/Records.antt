@@ -1,0 +1,101 @@
+-- The record of an enclave number, and what each call makes of it.
+use Rattle.std.specs.Prelude.{ℕ, ◌≤◌, ◌==◌, nat_lt, Bool, List, [], ◌∷◌, length, map, replicate, slice_get, slice_set, slice_index, unwrap_or, Option, None}
+use Rattle.pl_base.specs.declared.refusal.No.{No}
+use Rattle.pl_base.specs.declared.refusal.No.TheVariants.{NoEnclave, Full, Empty}
+use Rattle.pl_base.specs.declared.state.State.TheVariants.{Free, Building}
+use Rattle.pl_base.specs.Refusals.{refuse, first_refusal}
+use Rattle.pl_base.specs.States.{is_wordless}
+use Rattle.rv_alone.specs.declared.step.Context.{Context}
+use Rattle.rv_alone.specs.Alone.{most_words}
+use Rattle.rv_alone.specs.Flat.{start_registers}
+use Rattle.mon_image.specs.declared.image.Image.{Image}
+use Rattle.mon_enclave.specs.declared.enclave.PageKind.{PageKind}
+use Rattle.mon_enclave.specs.declared.enclave.PageKind.TheVariants.{Own, Shared}
+use Rattle.mon_enclave.specs.declared.enclave.Enclave.{Enclave}
+
+-- the number of a page of either kind
+abbrev pub page_number_of : PageKind → ℕ
+page_number_of (Own page) = page
+page_number_of (Shared page) = page
+
+-- the record of a number that is free from the start
+abbrev pub free_enclave : Enclave
+free_enclave = record {
+  image = 0;
+  pages = [];
+  spares = [];
+  given = 0;
+  context = record { regs = replicate 32 0; pc = 0 };
+  sent = [];
+  received = 0;
+  out = [];
+  shown = 0;
+  taken = 0;
+  retired = 0;
+  state = Free;
+  hart = record { 0 = 0 };
+  parent = None;
+}
+
+-- the record of number e stands at place e
+abbrev pub enclave_at : List Enclave → ℕ → Enclave
+enclave_at all e = unwrap_or (slice_get all e) free_enclave
+
+-- number e has this record now, and each other number its own
+abbrev pub with_enclave : List Enclave → ℕ → Enclave → List Enclave
+with_enclave all e now = slice_set all e now
+
+-- what holds of each record: the counts don't pass what they count, and the lists don't pass their room
+pub record IsEnclave (enclave : Enclave) : Type 0 where
+  pub received_few : enclave.received ≤ length enclave.sent
+  pub sent_few : length enclave.sent ≤ most_words
+  pub taken_few : enclave.taken ≤ enclave.shown
+  pub shown_few : enclave.shown ≤ length enclave.out
+  pub out_few : length enclave.out ≤ most_words
+  pub pages_few : length enclave.pages ≤ 256
+  pub spares_few : length enclave.spares ≤ 256
+  pub spares_given : length enclave.spares ≤ enclave.given
+  pub given_few : enclave.given ≤ 256
+
+-- why no word can be sent to it: there is no enclave, or as many as may be were sent
+abbrev pub send_refusal : Enclave → Option No
+send_refusal enclave = first_refusal (refuse (is_wordless enclave.state) NoEnclave ∷ refuse (length enclave.sent == most_words) Full ∷ [])
+
+-- why no word can be taken from it: there is no enclave, or each word that is shown was taken
+abbrev pub take_refusal : Enclave → Option No
+take_refusal enclave = first_refusal (refuse (is_wordless enclave.state) NoEnclave ∷ refuse (enclave.taken == enclave.shown) Empty ∷ [])
+
+-- the first word that wasn't taken
+abbrev pub taken_word : Enclave → ℕ
+taken_word enclave = slice_index enclave.out enclave.taken
+
+-- the first sent word that wasn't received, where there is one
+abbrev pub received_word : Enclave → Option ℕ
+received_word enclave = slice_get enclave.sent enclave.received
+
+-- it may send out one more word
+abbrev pub has_room : Enclave → Bool
+has_room enclave = nat_lt (length enclave.out) most_words
+
+-- the registers and pc with which the flat machine starts the image
+abbrev pub start_context : Image → Context
+start_context image = record { regs = start_registers (length image.pages); pc = image.entry }
+
+-- the record of a number that is being built from an image of this number in these pages, which are its own
+abbrev pub built : ℕ → Image → List ℕ → Enclave → Enclave
+built number image pages enclave = record {
+  image = number;
+  pages = map Own pages;
+  spares = [];
+  given = 0;
+  context = start_context image;
+  sent = [];
+  received = 0;
+  out = [];
+  shown = 0;
+  taken = 0;
+  retired = 0;
+  state = Building;
+  hart = enclave.hart;
+  parent = None;
+}

@@ -1,0 +1,240 @@
+// The record of one enclave number.
+ghost use Rattle.std.specs.Prelude.{◌≡◌, ◌≤◌, ◌<◌, ◌+◌, ◌^◌, [], ◌∷◌, ◌++◌, length, map, IfOk, OnOk, OnErr, OnSome, IfNone};
+ghost use Rattle.std.specs.Bool.{OnTrue, OnFalse};
+ghost use Rattle.std.specs.Result.{result_err};
+ghost use Rattle.pl_base.specs.States.{is_wordless, state_left};
+ghost use Rattle.rv_alone.specs.Flat.{start_registers};
+
+use crate::Bounded;
+use mon_image::Image;
+use pl_base::{EncNo, HartNo, No, State, Why};
+use rv_alone::Context;
+use std::alloc::{AllocError, Global};
+
+// How many words may be sent to an enclave, and sent out by it.
+const MOST_WORDS: usize = 4096;
+
+// Page 0 of an image stands here.
+const FIRST_ADDRESS: u64 = 0x10000;
+
+const PAGE_SIZE: u64 = 4096;
+
+/// A page of an enclave, by its number: its own, or one that it shares with the number that it was forked from.
+#[derive(Clone, Copy, PartialEq, Eq, Debug)]
+pub enum PageKind {
+    Own(u32),
+    Shared(u32),
+}
+
+impl PageKind {
+    ghost use Rattle.mon_enclave.specs.Records.{page_number_of};
+
+    /// The page's number.
+    pub fn page(self) -> u32
+        ensures { result ≡ page_number_of self }
+    {
+        match self {
+            PageKind::Own(page) | PageKind::Shared(page) => page,
+        }
+    }
+}
+
+/// The record of an enclave number.
+#[derive(Debug, Drop)]
+pub struct Enclave {
+    /// The number of its image.
+    pub image: u8,
+    /// Its pages, in the image's order.
+    pub pages: Bounded<PageKind, 256>,
+    /// The pages that it was given for its copies and that aren't used yet.
+    pub spares: Bounded<u32, 256>,
+    /// How many spares it was ever given.
+    pub given: u32,
+    /// Its registers, and the address of its next instruction.
+    pub context: Context,
+    /// The words that were sent to it, the first ones first.
+    pub sent: Bounded<u64, 4096>,
+    /// How many of them it has received.
+    pub received: u32,
+    /// The words that it sent out, the first ones first.
+    pub out: Bounded<u64, 4096>,
+    /// How many of them may be taken: those sent out before it was last left.
+    pub shown: u32,
+    /// How many of them were taken.
+    pub taken: u32,
+    /// How many of its instructions retired.
+    pub retired: u64,
+    pub state: State,
+    /// The hart that it was last entered on.
+    pub hart: HartNo,
+    /// The number that it was forked from.
+    pub parent: Option<EncNo>,
+}
+
+// Whether no word goes in or out in this state.
+fn is_wordless(state: State) -> bool
+    ensures { result ≡ is_wordless state }
+{
+    matches!(
+        state,
+        State::Free | State::Sealed | State::Building | State::Dying
+    )
+}
+
+// The state in which a run leaves its enclave.
+fn state_left(why: Why) -> State
+    ensures { result ≡ state_left why }
+{
+    match why {
+        Why::Ended(_) => State::Ended,
+        Why::Trapped { .. } => State::Trapped,
+        Why::Fault(_) => State::Faulted,
+        _ => State::Paused,
+    }
+}
+
+// The registers at the start of an image of so many pages.
+fn start_registers(pages: usize) -> [u64; 32]
+    requires { pages ≤ 256 }
+    ensures { result ≡ start_registers pages }
+{
+    let mut regs = [0; 32];
+    regs[2] = FIRST_ADDRESS + PAGE_SIZE * pages as u64;
+    regs
+}
+
+// Fills the list with these pages.
+fn own(list: &mut Bounded<PageKind, 256>, pages: &[u32])
+    requires { length pages.now ≤ 256 }
+    ensures { list.new ≡ map PageKind.Own pages.now }
+{
+    list.clear();
+    for page in pages {
+        list.push(PageKind::Own(*page));
+    }
+}
+
+impl Enclave {
+    ghost use Rattle.mon_enclave.specs.Records.{IsEnclave, built, free_enclave, has_room, received_word, send_refusal, take_refusal, taken_word};
+
+    // The record of a free number, with room for all that it may hold.
+    pub(crate) fn free(alloc: Global) -> Result<Enclave, AllocError>
+        ensures now { IfOk result (λ enclave. enclave ≡ free_enclave) }
+        ensures kept { IfOk result IsEnclave }
+    {
+        Ok(Enclave {
+            image: 0,
+            pages: Bounded::new(alloc)?,
+            spares: Bounded::new(alloc)?,
+            given: 0,
+            context: Context {
+                regs: [0; 32],
+                pc: 0,
+            },
+            sent: Bounded::new(alloc)?,
+            received: 0,
+            out: Bounded::new(alloc)?,
+            shown: 0,
+            taken: 0,
+            retired: 0,
+            state: State::Free,
+            hart: HartNo(0),
+            parent: None,
+        })
+    }
+
+    pub(crate) fn send(&mut self, word: u64) -> Result<(), No>
+        requires { IsEnclave self.old }
+        ensures refusal { result_err result ≡ send_refusal self.old }
+        ensures ok { OnOk result (self.new ≡ record self.old { sent = self.old.sent ++ word ∷ [] }) }
+        ensures err { OnErr result (self.new ≡ self.old) }
+        ensures kept { IsEnclave self.new }
+    {
+        if is_wordless(self.state) {
+            return Err(No::NoEnclave);
+        }
+        if self.sent.len() == MOST_WORDS {
+            return Err(No::Full);
+        }
+        self.sent.push(word);
+        Ok(())
+    }
+
+    pub(crate) fn take(&mut self) -> Result<u64, No>
+        requires { IsEnclave self.old }
+        ensures refusal { result_err result ≡ take_refusal self.old }
+        ensures word { IfOk result (λ word. word ≡ taken_word self.old) }
+        ensures ok { OnOk result (self.new ≡ record self.old { taken = self.old.taken + 1 }) }
+        ensures err { OnErr result (self.new ≡ self.old) }
+        ensures kept { IsEnclave self.new }
+    {
+        if is_wordless(self.state) {
+            return Err(No::NoEnclave);
+        }
+        if self.taken == self.shown {
+            return Err(No::Empty);
+        }
+        let word = self.out.as_slice()[self.taken as usize];
+        self.taken += 1;
+        Ok(word)
+    }
+
+    pub(crate) fn left(&mut self, why: Why)
+        requires { IsEnclave self.old }
+        ensures kept { IsEnclave self.new }
+        ensures now { self.new ≡ record self.old { state = state_left why; shown = length self.old.out } }
+    {
+        self.state = state_left(why);
+        self.shown = self.out.len() as u32;
+    }
+
+    pub(crate) fn build(&mut self, number: u8, image: &Image, pages: &[u32])
+        requires { length pages.now ≡ length image.now.pages }
+        ensures now { self.new ≡ built number image.now pages.now self.old }
+        ensures kept { IsEnclave self.new }
+    {
+        let count = image.pages.as_slice().len();
+        self.image = number;
+        own(&mut self.pages, pages);
+        self.spares.clear();
+        self.given = 0;
+        self.context = Context {
+            regs: start_registers(count),
+            pc: image.entry,
+        };
+        self.sent.clear();
+        self.received = 0;
+        self.out.clear();
+        self.shown = 0;
+        self.taken = 0;
+        self.retired = 0;
+        self.state = State::Building;
+        self.parent = None;
+    }
+
+    pub(crate) fn receive(&mut self) -> Option<u64>
+        requires { IsEnclave self.old }
+        ensures word { result ≡ received_word self.old }
+        ensures some { OnSome result (self.new ≡ record self.old { received = self.old.received + 1 }) }
+        ensures none { IfNone result (self.new ≡ self.old) }
+        ensures kept { IsEnclave self.new }
+    {
+        let word = self.sent.as_slice().get(self.received as usize).copied()?;
+        self.received += 1;
+        Some(word)
+    }
+
+    pub(crate) fn send_out(&mut self, word: u64) -> bool
+        requires { IsEnclave self.old }
+        ensures room { result ≡ has_room self.old }
+        ensures sent { OnTrue result (self.new ≡ record self.old { out = self.old.out ++ word ∷ [] }) }
+        ensures full { OnFalse result (self.new ≡ self.old) }
+        ensures kept { IsEnclave self.new }
+    {
+        if self.out.len() == MOST_WORDS {
+            return false;
+        }
+        self.out.push(word);
+        true
+    }
+}
