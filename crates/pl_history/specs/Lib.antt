@@ -4,3 +4,5 @@ pub mod Making
 pub mod Running
 pub mod Words
 pub mod Legal
+pub mod History
+pub mod Text

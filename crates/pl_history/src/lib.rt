@@ -2,9 +2,16 @@
 #![tactic(auto)]
 
 mod answer;
+mod history;
 mod line;
+mod printing;
 mod setup;
 
 pub use answer::{Answer, Entry};
+pub use history::History;
 pub use line::{AttackLine, Line};
+pub use printing::{put_done, put_entry, put_history, put_output};
 pub use setup::{ChoiceName, Setup, SetupParts};
+
+#[cfg(test)]
+mod tests;

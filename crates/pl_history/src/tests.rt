@@ -1,0 +1,214 @@
+// The printed lines, whose texts were written by hand from the rules of the format, and a history that is filled.
+ghost use Rattle.std.specs.Prelude.{◌≡◌};
+ghost use Rattle.pl_history.specs.History.{part_end};
+
+use crate::{Answer, Entry, History, put_done, put_entry, put_history, put_output};
+use pl_base::{EncNo, No, Place, State, Why};
+use pl_io::MemSink;
+use std::alloc::Global;
+use std::test::Fail;
+
+const BYTES: [u8; 4] = [0xff, 0, 0x0f, 0xab];
+
+const BLOCK: Place = Place::Block {
+    page: 1234,
+    block: 63,
+};
+
+const NODE: Place = Place::Node {
+    level: 1,
+    zone: 2,
+    index: 511,
+};
+
+const ROOT_NODE: Place = Place::RootNode { level: 2, index: 0 };
+
+fn part_end(answer: &Answer) -> u64
+    ensures { result ≡ part_end answer.now }
+{
+    match *answer {
+        Answer::Wrote { from, len, .. } | Answer::Kept { from, len, .. } => {
+            u64::from(from) + u64::from(len)
+        }
+        _ => 0,
+    }
+}
+
+// The line of an entry of hart 1 or the attacker, where there are four harts.
+fn line_of(alloc: Global, actor: u8, answer: Answer) -> Result<Vec<u8>, Fail> {
+    let mut history = History::new(alloc, 1, 4)?;
+    history.add_bytes(&BYTES);
+    if part_end(&answer) > 4 {
+        return Err(Fail::from("names a part past the bytes"));
+    }
+    history.add(Entry {
+        actor,
+        line: 70,
+        answer,
+    });
+    let mut sink = MemSink::new(alloc, 100, Vec::new(alloc))?;
+    put_entry(&mut sink, 4, &history, 0)?;
+    Ok(Vec::from_slice(alloc, sink.bytes())?)
+}
+
+#[test]
+fn each_answer_has_its_line(rt: HostRuntime) -> Result<(), Fail> {
+    for (actor, answer, want) in [
+        (0, Answer::Begun, "h0 70 begun\n"),
+        (4, Answer::Ok, "x 70 ok\n"),
+        (3, Answer::Value(0xab), "h3 70 value 00000000000000ab\n"),
+        (1, Answer::Word(u64::MAX), "h1 70 word ffffffffffffffff\n"),
+        (
+            4,
+            Answer::Wrote {
+                changed: true,
+                pa: 0x8000_0040,
+                from: 1,
+                len: 3,
+            },
+            "x 70 wrote 1 80000040 000fab\n",
+        ),
+        (
+            4,
+            Answer::Wrote {
+                changed: false,
+                pa: 0x8000_0fff,
+                from: 0,
+                len: 1,
+            },
+            "x 70 wrote 0 80000fff ff\n",
+        ),
+        (
+            4,
+            Answer::Kept {
+                pa: 0,
+                from: 0,
+                len: 4,
+            },
+            "x 70 kept 0 ff000fab\n",
+        ),
+    ] {
+        let line = line_of(rt.alloc(), actor, answer)?;
+        assert_eq!(rt; line.as_slice(), want.as_bytes(), "{want}");
+    }
+    Ok(())
+}
+
+#[test]
+fn each_reason_to_leave_has_its_line(rt: HostRuntime) -> Result<(), Fail> {
+    let alloc = rt.alloc();
+    for (count, why, want) in [
+        (0, Why::Ended(42), "left 0 ended 000000000000002a"),
+        (4_294_967_295, Why::Budget, "left 4294967295 budget"),
+        (1, Why::Waiting, "left 1 waiting"),
+        (8193, Why::OutFull, "left 8193 out-full"),
+        (2, Why::NeedPage, "left 2 need-page"),
+        (
+            3,
+            Why::Trapped {
+                cause: 15,
+                value: 0x10ff8,
+            },
+            "left 3 trapped 15 0000000000010ff8",
+        ),
+        (4, Why::Fault(BLOCK), "left 4 fault block 1234 63"),
+        (5, Why::Fault(NODE), "left 5 fault node 1 2 511"),
+        (6, Why::Fault(ROOT_NODE), "left 6 fault root-node 2 0"),
+    ] {
+        let line = line_of(alloc, 1, Answer::Left { count, why })?;
+        let whole = format!(in alloc; "h1 70 {want}\n")?;
+        assert_eq!(rt; line.as_slice(), whole.as_bytes(), "{want}");
+    }
+    Ok(())
+}
+
+#[test]
+fn each_refusal_has_its_line(rt: HostRuntime) -> Result<(), Fail> {
+    let alloc = rt.alloc();
+    for (cause, want) in [
+        (No::Misaligned, "2 misaligned"),
+        (No::PageFault, "3 page-fault"),
+        (No::AccessFault, "4 access-fault"),
+        (No::Fault(BLOCK), "5 fault block 1234 63"),
+        (No::Fault(NODE), "5 fault node 1 2 511"),
+        (No::Fault(ROOT_NODE), "5 fault root-node 2 0"),
+        (No::BadAddress, "6 bad-address"),
+        (No::Busy, "7 busy"),
+        (No::Mapped, "8 mapped"),
+        (No::NotYours(4095), "9 not-yours 4095"),
+        (No::NotMapped, "10 not-mapped"),
+        (No::Exists, "11 exists"),
+        (No::Count, "12 count"),
+        (No::Twice(0), "13 twice 0"),
+        (No::StillMapped(20), "14 still-mapped 20"),
+        (No::Barred(4_294_967_295), "15 barred 4294967295"),
+        (No::NoEnclave, "16 no-enclave"),
+        (No::Full, "18 full"),
+        (No::Empty, "19 empty"),
+        (No::TooMany, "20 too-many"),
+        (No::InUse(EncNo(63)), "21 in-use 63"),
+    ] {
+        let line = line_of(alloc, 2, Answer::No(cause))?;
+        let whole = format!(in alloc; "h2 70 no {want}\n")?;
+        assert_eq!(rt; line.as_slice(), whole.as_bytes(), "{want}");
+    }
+    for (state, want) in [
+        (State::Free, "free"),
+        (State::Building, "building"),
+        (State::Fresh, "fresh"),
+        (State::On, "on"),
+        (State::Paused, "paused"),
+        (State::Ended, "ended"),
+        (State::Trapped, "trapped"),
+        (State::Faulted, "faulted"),
+        (State::Dying, "dying"),
+        (State::Sealed, "sealed"),
+    ] {
+        let line = line_of(alloc, 2, Answer::No(No::WrongState(state)))?;
+        let whole = format!(in alloc; "h2 70 no 17 wrong-state {want}\n")?;
+        assert_eq!(rt; line.as_slice(), whole.as_bytes(), "{want}");
+    }
+    Ok(())
+}
+
+#[test]
+fn a_history_is_filled_and_printed(rt: HostRuntime) -> Result<(), Fail> {
+    let alloc = rt.alloc();
+    let mut history = History::new(alloc, 2, 6)?;
+    assert_eq!(rt; history.room(), (2, 6));
+    assert_eq!(rt; history.add_bytes(&BYTES), 0);
+    assert_eq!(rt; history.add_bytes(&[0x7f]), 4);
+    assert_eq!(rt; history.room(), (2, 1));
+    assert_eq!(rt; history.bytes(), [0xff, 0, 0x0f, 0xab, 0x7f].as_slice());
+    let first = Entry {
+        actor: 0,
+        line: 0,
+        answer: Answer::Begun,
+    };
+    let second = Entry {
+        actor: 1,
+        line: 3,
+        answer: Answer::Kept {
+            pa: 0x8000_0000,
+            from: 3,
+            len: 2,
+        },
+    };
+    history.add(first);
+    history.add(second);
+    assert_eq!(rt; history.room(), (0, 1));
+    assert_eq!(rt; history.entries(), [first, second].as_slice());
+    let mut sink = MemSink::new(alloc, 200, Vec::new(alloc))?;
+    put_history(&mut sink, 1, &history)?;
+    assert_eq!(rt;
+        sink.bytes(),
+        b"h0 0 begun\nx 3 kept 80000000 ab7f\n".as_slice()
+    );
+    put_done(&mut sink)?;
+    put_output(&mut sink, 2, &history)?;
+    assert_eq!(rt;
+        sink.bytes(),
+        b"h0 0 begun\nx 3 kept 80000000 ab7f\nend done\nh0 0 begun\nh1 3 kept 80000000 ab7f\nend done\n".as_slice()
+    );
+    Ok(())
+}
