@@ -11,6 +11,9 @@ use pl_base::{EncNo, HartNo, No, State, Why};
 use rv_alone::Context;
 use std::alloc::{AllocError, Global};
 
+// How many pages and how many spares an enclave has at most.
+const MOST_PAGES: usize = 256;
+
 // How many words may be sent to an enclave, and sent out by it.
 const MOST_WORDS: usize = 4096;
 
@@ -45,19 +48,19 @@ pub struct Enclave {
     /// The number of its image.
     pub image: u8,
     /// Its pages, in the image's order.
-    pub pages: Bounded<PageKind, 256>,
+    pub pages: Bounded<PageKind, MOST_PAGES>,
     /// The pages that it was given for its copies and that aren't used yet.
-    pub spares: Bounded<u32, 256>,
+    pub spares: Bounded<u32, MOST_PAGES>,
     /// How many spares it was ever given.
     pub given: u32,
     /// Its registers, and the address of its next instruction.
     pub context: Context,
     /// The words that were sent to it, the first ones first.
-    pub sent: Bounded<u64, 4096>,
+    pub sent: Bounded<u64, MOST_WORDS>,
     /// How many of them it has received.
     pub received: u32,
     /// The words that it sent out, the first ones first.
-    pub out: Bounded<u64, 4096>,
+    pub out: Bounded<u64, MOST_WORDS>,
     /// How many of them may be taken: those sent out before it was last left.
     pub shown: u32,
     /// How many of them were taken.
@@ -104,7 +107,7 @@ fn start_registers(pages: usize) -> [u64; 32]
 }
 
 // Fills the list with these pages.
-fn own(list: &mut Bounded<PageKind, 256>, pages: &[u32])
+fn own(list: &mut Bounded<PageKind, MOST_PAGES>, pages: &[u32])
     requires { length pages.now ≤ 256 }
     ensures { list.new ≡ map PageKind.Own pages.now }
 {
@@ -119,8 +122,7 @@ impl Enclave {
 
     // The record of a free number, with room for all that it may hold.
     pub(crate) fn free(alloc: Global) -> Result<Enclave, AllocError>
-        ensures now { IfOk result (λ enclave. enclave ≡ free_enclave) }
-        ensures kept { IfOk result IsEnclave }
+        ensures { IfOk result (λ enclave. enclave ≡ free_enclave) }
     {
         Ok(Enclave {
             image: 0,
@@ -181,8 +183,8 @@ impl Enclave {
 
     pub(crate) fn left(&mut self, why: Why)
         requires { IsEnclave self.old }
-        ensures kept { IsEnclave self.new }
         ensures now { self.new ≡ record self.old { state = state_left why; shown = length self.old.out } }
+        ensures kept { IsEnclave self.new }
     {
         self.state = state_left(why);
         self.shown = self.out.len() as u32;

@@ -8,3 +8,6 @@ mod enclaves;
 pub use bounded::Bounded;
 pub use enclave::{Enclave, PageKind};
 pub use enclaves::Enclaves;
+
+#[cfg(test)]
+mod tests;
