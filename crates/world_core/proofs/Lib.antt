@@ -4,3 +4,6 @@ pub mod OwnerLemmas
 pub mod Accesses
 pub mod StepLemmas
 pub mod RunLemmas
+pub mod ImageLemmas
+pub mod CreateLemmas
+pub mod WorldLemmas

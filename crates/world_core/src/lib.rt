@@ -6,3 +6,4 @@ mod memory;
 mod owners;
 mod run;
 mod step;
+mod world;
