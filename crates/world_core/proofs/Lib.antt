@@ -4,3 +4,4 @@ pub mod OwnerLemmas
 pub mod Accesses
 pub mod StepLemmas
 pub mod RunLemmas
+pub mod UnbuiltLemmas

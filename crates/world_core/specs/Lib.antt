@@ -2,3 +2,4 @@ pub mod Memory
 pub mod Owners
 pub mod Pages
 pub mod Steps
+pub mod Unbuilt

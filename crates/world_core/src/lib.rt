@@ -6,3 +6,6 @@ mod memory;
 mod owners;
 mod run;
 mod step;
+mod unbuilt;
+
+pub use unbuilt::first_unbuilt;
