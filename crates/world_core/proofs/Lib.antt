@@ -7,3 +7,8 @@ pub mod RunLemmas
 pub mod ImageLemmas
 pub mod CreateLemmas
 pub mod WorldLemmas
+pub mod UnbuiltLemmas
+pub mod Histories
+pub mod LineLemmas
+pub mod MakingLemmas
+pub mod ScriptLemmas

@@ -3,3 +3,4 @@ pub mod Owners
 pub mod Pages
 pub mod Steps
 pub mod Worlds
+pub mod Unbuilt
