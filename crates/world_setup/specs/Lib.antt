@@ -1,0 +1,5 @@
+pub mod Checked
+pub mod Answers
+pub mod Walk
+pub mod Keys
+pub mod Numbers

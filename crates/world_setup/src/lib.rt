@@ -1,2 +1,9 @@
 //! A setup from its text: the first rule that fails, or the setup.
 #![tactic(auto)]
+
+mod fault;
+mod keys;
+mod numbers;
+mod walk;
+
+pub use fault::SetupFault;
