@@ -3,3 +3,4 @@ pub mod Answers
 pub mod Walk
 pub mod Keys
 pub mod Numbers
+pub mod Images

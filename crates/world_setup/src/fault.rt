@@ -1,10 +1,10 @@
 // Why a text isn't a setup.
-ghost use Rattle.std.specs.Prelude.{◌^◌, ◌<◌, IfSome};
+ghost use Rattle.std.specs.Prelude.{◌≡◌, ◌^◌, ◌<◌, IfSome};
 ghost use Rattle.world_setup.specs.Checked.{unless, some_of, none_at};
 ghost use Rattle.world_setup.specs.Answers.{Answers};
 
 use pl_base::Memory;
-use std::alloc::{AllocError, AllocFailed};
+use std::alloc::{AllocError};
 use thiserror::Error;
 
 /// Why a text isn't a setup.
@@ -19,12 +19,20 @@ pub enum SetupFault {
 }
 
 impl From<Memory> for SetupFault {
+    ghost use Rattle.world_setup.specs.declared.fault.SetupFault.{SetupFault};
+
+    ghost from_gives = { λ _ fault. fault ≡ SetupFault.Memory };
+
     fn from(_error: Memory) -> SetupFault {
         SetupFault::Memory
     }
 }
 
 impl From<AllocError> for SetupFault {
+    ghost use Rattle.world_setup.specs.declared.fault.SetupFault.{SetupFault};
+
+    ghost from_gives = { λ _ fault. fault ≡ SetupFault.Memory };
+
     fn from(_error: AllocError) -> SetupFault {
         SetupFault::Memory
     }

@@ -3,6 +3,7 @@
 
 mod fault;
 mod keys;
+mod images;
 mod numbers;
 mod walk;
 
