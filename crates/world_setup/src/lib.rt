@@ -1,10 +1,14 @@
 //! A setup from its text: the first rule that fails, or the setup.
 #![tactic(auto)]
 
+mod arguments;
 mod fault;
-mod keys;
+mod forms;
 mod images;
+mod keys;
 mod numbers;
+mod page_lists;
 mod walk;
+mod words;
 
 pub use fault::SetupFault;
