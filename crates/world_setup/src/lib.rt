@@ -2,6 +2,8 @@
 #![tactic(auto)]
 
 mod arguments;
+mod entries;
 mod forms;
+mod order;
 mod page_lists;
 mod words;
