@@ -1,4 +1,7 @@
 pub mod Parts
+pub mod Passes
 pub mod Ranges
 pub mod FirstWords
 pub mod FormLemmas
+pub mod EntryLemmas
+pub mod OrderLemmas
