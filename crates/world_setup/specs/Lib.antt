@@ -4,3 +4,4 @@ pub mod PageLists
 pub mod Forms
 pub mod Entries
 pub mod Order
+pub mod Faults

@@ -3,6 +3,7 @@
 
 mod arguments;
 mod entries;
+mod faults;
 mod forms;
 mod order;
 mod page_lists;
