@@ -4,6 +4,8 @@
 mod arguments;
 mod entries;
 mod faults;
+#[cfg(test)]
+mod form_tests;
 mod forms;
 mod order;
 mod page_lists;
