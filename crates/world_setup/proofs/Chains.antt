@@ -48,3 +48,13 @@ all_from p i (x ∷ xs) none = pass_from p i x xs (p x) refl (all_from p (i + 1)
 -- where no item fails, all pass
 pub passes_all : {X : Type 0} (p : X → Bool) (xs : List X) → position (λ y. not (p y)) xs ≡ None → list_all p xs ≡ true
 passes_all p xs none = all_from p 0 xs (sym (position_from-zero (λ y. not (p y)) xs) ∙ none)
+
+pass_on : {X : Type 0} (p : X → Bool) (i : ℕ) (x : X) (xs : List X) (b : Bool) → p x ≡ b → list_all p (x ∷ xs) ≡ true → (list_all p xs ≡ true → position_from (λ y. not (p y)) (i + 1) xs ≡ None)
+    → position_from (λ y. not (p y)) i (x ∷ xs) ≡ None
+pass_on p i x xs true e all rest = let rest' = rw e at all in rw e (rest rest')
+pass_on p i x xs false e all rest = let none = rw e at all in cc
+
+-- and where all pass, no item fails
+pub none_from : {X : Type 0} (p : X → Bool) (i : ℕ) (xs : List X) → list_all p xs ≡ true → position_from (λ y. not (p y)) i xs ≡ None
+none_from p i [] all = refl
+none_from p i (x ∷ xs) all = pass_on p i x xs (p x) refl all (none_from p (i + 1) xs)

@@ -48,3 +48,13 @@ all_counted f (x ∷ xs) all =
 pub none_mapped : (f : ℕ → ℕ) (o : Option ℕ) → option_map f o ≡ None → o ≡ None
 none_mapped f None e = refl
 none_mapped f (Some x) e = cc
+
+all_some : {X Y : Type 0} (f : X → Option Y) (x : X) (xs : List X) (o : Option Y) → f x ≡ o → length (filter_map f (x ∷ xs)) ≡ length xs + 1 → (length (filter_map f xs) ≡ length xs → list_all (λ y. is_some (f y)) xs ≡ true)
+    → length (filter_map f xs) ≤ length xs → list_all (λ y. is_some (f y)) (x ∷ xs) ≡ true
+all_some f x xs None e count rest few = absurd (let h : length (filter_map f xs) ≡ length xs + 1 = rw e at count in omega arith)
+all_some f x xs (Some y) e count rest few = rw e (rest (let h : length (y ∷ filter_map f xs) ≡ length xs + 1 = rw e at count in omega arith))
+
+-- where as many are chosen as there are, each is
+pub all_where_counted : {X Y : Type 0} (f : X → Option Y) (xs : List X) → length (filter_map f xs) ≡ length xs → list_all (λ x. is_some (f x)) xs ≡ true
+all_where_counted f [] count = refl
+all_where_counted f (x ∷ xs) count = all_some f x xs (f x) refl (omega (arith, count)) (all_where_counted f xs) (fewer f xs)

@@ -61,9 +61,8 @@ scripts_hold harts t = do
   unless (is_attack_array (get_member (codes "attacker") t)) 20
 
 -- the attacker's lines come after all others
-unfoldable pub lines_hold : List (List ℕ) → List (List ℕ) → Checked (Unit {0})
-lines_hold scripts attacks = do
-  _ ← unless (nat_le (length scripts + length attacks) 65536) 21
+unfoldable pub forms_hold : List (List ℕ) → List (List ℕ) → Checked (Unit {0})
+forms_hold scripts attacks = do
   _ ← none_at (position_from has_no_form 0 scripts) 22
   none_at (option_map (λ at. length scripts + at) (position_from has_no_attack_form 0 attacks)) 22
 
@@ -76,7 +75,8 @@ attack_script t = filter_map attack_line_of (attack_texts t)
 unfoldable pub scripts_of : ℕ → Members → Checked Scripts
 scripts_of harts t = do
   _ ← scripts_hold harts t
-  _ ← lines_hold (script_texts t) (attack_texts t)
+  _ ← unless (nat_le (length (script_texts t) + length (attack_texts t)) 65536) 21
+  _ ← forms_hold (script_texts t) (attack_texts t)
   Ok (record { lines = map script_of (harts_in t); attacker = attack_script t })
 
 -- each text became a line

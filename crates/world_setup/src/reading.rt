@@ -10,26 +10,13 @@ use crate::images::images_of;
 use crate::keys::has_known_keys;
 use crate::numbers::{Numbers, numbers_of};
 use crate::protection::{order_at, protection_of};
-use crate::scripts::{Scripts, scripts_of};
-use pl_base::Listed;
-use pl_history::{Line, Setup, SetupParts};
+use crate::scripts::{Scripts, count_lines, scripts_of};
+use pl_history::{Setup, SetupParts};
 use std::alloc::Global;
 use toml::Table;
 
 /// The longest text of a setup, in bytes.
 pub const MOST_TEXT: usize = 16_777_216;
-
-// How many lines the harts have.
-fn count_lines(scripts: &[Listed<Line>]) -> usize
-    requires { sum_by length scripts.now ≤ 65536 }
-    ensures { result ≡ sum_by length scripts.now }
-{
-    let mut count = 0;
-    for lines in scripts {
-        count += lines.len();
-    }
-    count
-}
 
 // Rules 23 and 24.
 #[tactic(auto, using(crate::proofs::Chains::fault_on), unfolding(crate::specs::SetupOf::lines_known))]

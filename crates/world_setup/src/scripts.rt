@@ -1,5 +1,5 @@
 // Rules 19 to 22: the scripts of the harts, and that of the attacker.
-ghost use Rattle.std.specs.Prelude.{◌≡◌, ◌+◌, ◌<◌, ◌++◌, map, length, option_map, IfOk, IfSome, OnOk};
+ghost use Rattle.std.specs.Prelude.{◌≡◌, ◌+◌, ◌<◌, ◌≤◌, ◌++◌, map, length, sum_by, option_map, IfOk, IfSome, OnOk};
 ghost use Rattle.std.specs.List.{list_all, filter_map, flat_map, position_from};
 ghost use Rattle.std.specs.Option.{option_to_list};
 ghost use Rattle.toml.specs.Data.{as_str};
@@ -7,7 +7,7 @@ ghost use Rattle.toml.specs.View.{view, table_view};
 ghost use Rattle.world_setup.specs.Answers.{Answers};
 ghost use Rattle.world_setup.specs.Forms.{line_of, attack_line_of};
 ghost use Rattle.world_setup.specs.Keys.{harts_in};
-ghost use Rattle.world_setup.specs.Scripts.{is_script, has_script, is_hart_array, is_attack_array, texts_in, hart_texts, script_texts, attack_texts, has_no_form, has_no_attack_form, scripts_hold, lines_hold, script_of, attack_script, scripts_of, IsRead};
+ghost use Rattle.world_setup.specs.Scripts.{is_script, has_script, is_hart_array, is_attack_array, texts_in, hart_texts, script_texts, attack_texts, has_no_form, has_no_attack_form, scripts_hold, forms_hold, script_of, attack_script, scripts_of, IsRead};
 
 use crate::fault::{SetupFault, after, none_at, unless};
 use crate::forms::{attack_line_of, line_of};
@@ -25,6 +25,18 @@ const MOST_LINES: usize = 65_536;
 pub(crate) struct Scripts {
     pub(crate) lines: Listed<Listed<Line>>,
     pub(crate) attacker: Listed<AttackLine>,
+}
+
+// How many lines the harts have.
+pub(crate) fn count_lines(scripts: &[Listed<Line>]) -> usize
+    requires { sum_by length scripts.now ≤ 65536 }
+    ensures { result ≡ sum_by length scripts.now }
+{
+    let mut count = 0;
+    for lines in scripts {
+        count += lines.len();
+    }
+    count
 }
 
 // ---- arrays of strings
@@ -160,11 +172,15 @@ fn without_form(alloc: Global, texts: &[&str]) -> Result<Option<usize>, Memory>
     Ok(None)
 }
 
-// The position of the first text that is no line.
-fn first_without_form(alloc: Global, texts: &[&str]) -> Result<Option<usize>, Memory>
+// The position of the first text that is no line. So many of them are lines: where all are, none is searched.
+fn first_without_form(alloc: Global, texts: &[&str], lines: usize) -> Result<Option<usize>, Memory>
+    requires { lines ≡ length (filter_map line_of (map (λ t. t.now) texts.now)) }
     ensures first { IfOk result (λ found. found ≡ position_from has_no_form 0 (map (λ t. t.now) texts.now)) }
     ensures within { IfOk result (λ found. IfSome found (λ at. at < length texts.now)) }
 {
+    if lines == texts.len() {
+        return Ok(None);
+    }
     without_form(alloc, texts)
 }
 
@@ -180,34 +196,44 @@ fn without_attack_form(alloc: Global, texts: &[&str]) -> Result<Option<usize>, M
     Ok(None)
 }
 
-// The position of the first text that is no line of the attacker.
-fn first_without_attack_form(alloc: Global, texts: &[&str]) -> Result<Option<usize>, Memory>
+// The position of the first text that is no line of the attacker. So many of them are.
+fn first_without_attack_form(
+    alloc: Global,
+    texts: &[&str],
+    lines: usize,
+) -> Result<Option<usize>, Memory>
+    requires { lines ≡ length (filter_map attack_line_of (map (λ t. t.now) texts.now)) }
     ensures first { IfOk result (λ found. found ≡ position_from has_no_attack_form 0 (map (λ t. t.now) texts.now)) }
     ensures within { IfOk result (λ found. IfSome found (λ at. at < length texts.now)) }
 {
+    if lines == texts.len() {
+        return Ok(None);
+    }
     without_attack_form(alloc, texts)
 }
 
-// Rules 21 and 22.
-#[tactic(auto, using(crate::proofs::Chains::fault_on), unfolding(crate::specs::Scripts::lines_hold))]
-fn lines_hold(alloc: Global, scripts: &[&str], attacks: &[&str]) -> Result<(), SetupFault>
-    ensures { Answers (lines_hold (map (λ t. t.now) scripts.now) (map (λ t. t.now) attacks.now)) result }
+// Rule 22, of texts of which so many are lines.
+#[tactic(auto, using(crate::proofs::Chains::fault_on), unfolding(crate::specs::Scripts::forms_hold))]
+fn forms_hold(
+    alloc: Global,
+    scripts: &[&str],
+    attacks: &[&str],
+    lines: usize,
+    attack_lines: usize,
+) -> Result<(), SetupFault>
+    requires few { length scripts.now + length attacks.now ≤ 65536 }
+    requires lines { lines ≡ length (filter_map line_of (map (λ t. t.now) scripts.now)) }
+    requires attack_lines { attack_lines ≡ length (filter_map attack_line_of (map (λ t. t.now) attacks.now)) }
+    ensures { Answers (forms_hold (map (λ t. t.now) scripts.now) (map (λ t. t.now) attacks.now)) result }
 {
-    unless(scripts.len() + attacks.len() <= MOST_LINES, 21)?;
-    none_at(first_without_form(alloc, scripts)?, 22)?;
+    none_at(first_without_form(alloc, scripts, lines)?, 22)?;
     none_at(
-        after(scripts.len(), first_without_attack_form(alloc, attacks)?),
+        after(
+            scripts.len(),
+            first_without_attack_form(alloc, attacks, attack_lines)?,
+        ),
         22,
     )
-}
-
-// The same, of a table.
-fn all_lines_hold(alloc: Global, table: &Table) -> Result<(), SetupFault>
-    ensures { Answers (lines_hold (script_texts (table_view table.now)) (attack_texts (table_view table.now))) result }
-{
-    let scripts = script_texts(alloc, table)?;
-    let attacks = attack_texts(alloc, table)?;
-    lines_hold(alloc, scripts.as_slice(), attacks.as_slice())
 }
 
 // Rules 19 and 20.
@@ -302,8 +328,17 @@ pub(crate) fn scripts_of(alloc: Global, harts: u8, table: &Table) -> Result<Scri
     ensures all { IfOk result (λ scripts. IsRead (table_view table.now) scripts) }
 {
     scripts_hold(harts, table)?;
-    all_lines_hold(alloc, table)?;
+    let scripts = script_texts(alloc, table)?;
+    let attacks = attack_texts(alloc, table)?;
+    unless(scripts.len() + attacks.len() <= MOST_LINES, 21)?;
     let lines = all_scripts(alloc, table)?;
     let attacker = attack_script(alloc, table)?;
+    forms_hold(
+        alloc,
+        scripts.as_slice(),
+        attacks.as_slice(),
+        count_lines(lines.as_slice()),
+        attacker.len(),
+    )?;
     Ok(Scripts { lines, attacker })
 }

@@ -1,4 +1,6 @@
-use Rattle.std.proofs.Common.{◌≡◌, Option, ℕ, sym, subst}
+use Rattle.std.proofs.Common.{◌≡◌, Option, ℕ, sym, subst, map, ◌∙◌}
+use Rattle.std.proofs.lemmas.List.{length-map}
+use Rattle.world_setup.proofs.ScriptReads.{none_without_form}
 use Rattle.std.specs.Result.{IfOk}
 use Rattle.world_setup.specs.Scripts.{has_no_form}
 use Rattle.world_setup.proofs.Positions.{position_from-map}
@@ -7,3 +9,7 @@ use Rattle.world_setup.proofs.scripts.first_without_form.Goals as goal
 pub returns-clause-first : goal.returns-clause-first
 returns-clause-first c =
     subst (λ (place : Option ℕ). IfOk c.without_form.result (λ found. found ≡ place)) (sym (position_from-map has_no_form (λ t. t.now) 0 c.args.texts.now)) c.without_form.ensures.first
+
+pub returns-then-lines-texts-clause-first : goal.returns-then-lines-texts-clause-first
+returns-then-lines-texts-clause-first c =
+    sym (none_without_form (map (λ t. t.now) c.args.texts.now) (sym c.requires ∙ c.if-lines-texts.true ∙ sym (length-map c.args.texts.now (λ t. t.now))))
