@@ -25,4 +25,5 @@ pub mod ScriptValidity
 pub mod LineCounts
 pub mod Validity
 pub mod ImageReads
+pub mod PageReads
 pub mod ScriptReads

@@ -274,11 +274,15 @@ fn pages_hold(pages: &[&Value]) -> Result<(), SetupFault>
     none_at(first_without_bytes(pages), 18)
 }
 
-// The same, over the pages of all images.
-fn all_pages_hold(alloc: Global, table: &Table) -> Result<(), SetupFault>
-    requires { images_hold (table_view table.now) ≡ Ok tt }
+// The same, over the pages of all images, of which so many were read: where all were, their pages hold.
+fn all_pages_hold(alloc: Global, table: &Table, images: usize) -> Result<(), SetupFault>
+    requires rules { images_hold (table_view table.now) ≡ Ok tt }
+    requires images { images ≡ length (filter_map image_of (images_in (table_view table.now))) }
     ensures { Answers (pages_hold (flat_map pages_in (images_in (table_view table.now)))) result }
 {
+    if images == items_at(table, "image").len() {
+        return Ok(());
+    }
     let pages = all_pages(alloc, table)?;
     pages_hold(pages.as_slice())
 }
@@ -327,6 +331,7 @@ pub(crate) fn images_of(alloc: Global, table: &Table) -> Result<Listed<Image>, S
     ensures all { IfOk result (λ images. length images ≡ length (images_in (table_view table.now))) }
 {
     images_hold(table)?;
-    all_pages_hold(alloc, table)?;
-    Ok(all_images(alloc, table)?)
+    let images = all_images(alloc, table)?;
+    all_pages_hold(alloc, table, images.len())?;
+    Ok(images)
 }

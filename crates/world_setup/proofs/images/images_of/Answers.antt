@@ -5,4 +5,4 @@ use Rattle.world_setup.proofs.images.images_of.Goals as goal
 
 pub returns-clause-all : goal.returns-clause-all
 returns-clause-all c =
-    ap length (c.in_ok-all_images.ensures {u = tt}) ∙ all_images_read (table_view c.args.table.now) (c.in_ok-images_hold.ensures {u = tt}) (c.in_ok-all_pages_hold.ensures {u = tt})
+    ap length (c.in_ok-images.ensures {u = tt}) ∙ all_images_read (table_view c.args.table.now) (c.in_ok-images_hold.ensures {u = tt}) (c.in_ok-all_pages_hold.ensures {u = tt})
