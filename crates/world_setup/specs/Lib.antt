@@ -4,6 +4,7 @@ pub mod Walk
 pub mod Keys
 pub mod Numbers
 pub mod Images
+pub mod Scripts
 pub mod Words
 pub mod Arguments
 pub mod PageLists

@@ -1,5 +1,5 @@
 // Why a text isn't a setup.
-ghost use Rattle.std.specs.Prelude.{◌≡◌, ◌^◌, ◌<◌, IfSome};
+ghost use Rattle.std.specs.Prelude.{◌≡◌, ◌+◌, ◌^◌, ◌<◌, option_map, IfSome};
 ghost use Rattle.world_setup.specs.Checked.{unless, some_of, none_at};
 ghost use Rattle.world_setup.specs.Answers.{Answers};
 
@@ -69,5 +69,16 @@ pub(crate) fn none_at(found: Option<usize>, rule: u8) -> Result<(), SetupFault>
             item: at as u32,
         }),
         None => Ok(()),
+    }
+}
+
+// A position that was found, with so many before.
+pub(crate) fn after(before: usize, found: Option<usize>) -> Option<usize>
+    requires { IfSome found (λ at. before + at < 2 ^ 32) }
+    ensures { result ≡ option_map (λ at. before + at) found }
+{
+    match found {
+        Some(at) => Some(before + at),
+        None => None,
     }
 }

@@ -8,6 +8,7 @@ mod images;
 mod keys;
 mod numbers;
 mod page_lists;
+mod scripts;
 mod walk;
 mod words;
 
