@@ -22,45 +22,11 @@ use Rattle.world_setup.specs.Arguments.{within, number_of, short_of, enclave_of,
 use Rattle.world_setup.specs.PageLists.{all_ranges, page_count, range_pages, pages_of_ranges, page_list_of}
 use Rattle.world_setup.specs.Forms.{both, all_three, line_of_one, line_of_two, line_of_three, line_of_words, line_of, attack_line_of_one, attack_line_of_two, attack_line_of_three, attack_line_of_words, attack_line_of}
 use Rattle.world_setup.proofs.Parts.{both_parts}
-
--- every value that is there passes the test
-abbrev Passes : {A : Type 0} → (A → Bool) → Option A → Type 0
-Passes {A} test o = (x : A) → o ≡ Some x → test x ≡ true
-
-none_passes : {A : Type 0} (test : A → Bool) → Passes test None
-none_passes test x is = cc
-
-some_passes : {A : Type 0} (test : A → Bool) (x : A) → test x ≡ true → Passes test (Some x)
-some_passes test x pass y is = subst (λ z. test z ≡ true) (same_Some x y is) pass
-
-if_passes : {A : Type 0} (test : A → Bool) (b : Bool) (o other : Option A) → Passes test o → Passes test other → Passes test (if b then o else other)
-if_passes test true o other first second = first
-if_passes test false o other first second = second
-
--- what is chosen by a test that the value then passes
-guarded_passes : {A : Type 0} (test : A → Bool) (b : Bool) (o : Option A) → (b ≡ true → Passes test o) → Passes test (if b then o else None)
-guarded_passes test true o inside = inside refl
-guarded_passes test false o inside = none_passes test
-
-map_passes : {A B : Type 0} (test : B → Bool) (f : A → B) (o : Option A) → ((x : A) → o ≡ Some x → test (f x) ≡ true) → Passes test (option_map f o)
-map_passes test f (Some x) pass = some_passes test (f x) (pass x refl)
-map_passes test f None pass = none_passes test
-
-both_passes : {A B C : Type 0} (test : C → Bool) (f : A → B → C) (a : Option A) (b : Option B) → ((x : A) (y : B) → b ≡ Some y → test (f x y) ≡ true) → Passes test (both f a b)
-both_passes test f (Some x) (Some y) pass = some_passes test (f x y) (pass x y refl)
-both_passes test f (Some x) None pass = none_passes test
-both_passes test f None b pass = none_passes test
-
-three_pass : {A B C D : Type 0} (test : D → Bool) (f : A → B → C → D) (a : Option A) (b : Option B) (c : Option C) → ((x : A) (y : B) (z : C) → a ≡ Some x → c ≡ Some z → test (f x y z) ≡ true)
-    → Passes test (all_three f a b c)
-three_pass test f (Some x) (Some y) (Some z) pass = some_passes test (f x y z) (pass x y z refl refl)
-three_pass test f (Some x) (Some y) None pass = none_passes test
-three_pass test f (Some x) None c pass = none_passes test
-three_pass test f None b c pass = none_passes test
+use Rattle.world_setup.proofs.Passes.{Passes, none_passes, some_passes, if_passes, guarded_passes, map_passes, both_passes, three_pass}
 
 -- ---- arguments
 
-within_passes : (low high : ℕ) (o : Option ℕ) → Passes (is_within low high) (within low high o)
+pub within_passes : (low high : ℕ) (o : Option ℕ) → Passes (is_within low high) (within low high o)
 within_passes low high None = none_passes (is_within low high)
 within_passes low high (Some n) = guarded_passes (is_within low high) (is_within low high n) (Some n) (λ pass. some_passes (is_within low high) n pass)
 

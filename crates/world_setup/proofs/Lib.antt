@@ -7,5 +7,10 @@ pub mod Positions
 pub mod Steps
 pub mod ImageRules
 pub mod Parts
+pub mod Passes
 pub mod Ranges
+pub mod FirstWords
+pub mod FaultSteps
 pub mod FormLemmas
+pub mod EntryLemmas
+pub mod OrderLemmas

@@ -2,11 +2,14 @@
 #![tactic(auto)]
 
 mod arguments;
+mod entries;
 mod fault;
+mod faults;
 mod forms;
 mod images;
 mod keys;
 mod numbers;
+mod order;
 mod page_lists;
 mod scripts;
 mod walk;
