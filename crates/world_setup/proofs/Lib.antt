@@ -14,3 +14,4 @@ pub mod FaultSteps
 pub mod FormLemmas
 pub mod EntryLemmas
 pub mod OrderLemmas
+pub mod EntryWalk

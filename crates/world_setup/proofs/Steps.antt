@@ -36,3 +36,8 @@ pub pushed_more : {X Y : Type 0} (f : X → Option Y) (xs : List X) (i : ℕ) (x
 pushed_more f xs i x front old new below is so_far pushed =
     pushed ∙ ap (λ l. l ++ option_to_list (f x)) so_far ∙ append_assoc front (filter_map f (take i xs)) (option_to_list (f x))
     ∙ ap (λ l. front ++ l) (ap (λ y. filter_map f (take i xs) ++ option_to_list (f y)) is ∙ sym (filter_map_more f xs i x below))
+
+-- the same of an item by its place
+pub pushed_at : {X Y : Type 0} (f : X → Option Y) (xs : List X) (i : ℕ) (d : X) (old new : List Y) → i < length xs → old ≡ filter_map f (take i xs)
+    → new ≡ old ++ option_to_list (f (get_or xs i d)) → new ≡ filter_map f (take (i + 1) xs)
+pushed_at f xs i d old new below so_far pushed = pushed ∙ ap (λ l. l ++ option_to_list (f (get_or xs i d))) so_far ∙ sym (filter_map_more f xs i d below)

@@ -5,6 +5,7 @@ pub mod Keys
 pub mod Numbers
 pub mod Images
 pub mod Scripts
+pub mod Protection
 pub mod Words
 pub mod Arguments
 pub mod PageLists

@@ -4,7 +4,7 @@ ghost use Rattle.world_setup.specs.Checked.{unless, some_of, none_at};
 ghost use Rattle.world_setup.specs.Answers.{Answers};
 
 use pl_base::Memory;
-use std::alloc::{AllocError};
+use std::alloc::{AllocError, AllocFailed};
 use thiserror::Error;
 
 /// Why a text isn't a setup.
@@ -34,6 +34,16 @@ impl From<AllocError> for SetupFault {
     ghost from_gives = { λ _ fault. fault ≡ SetupFault.Memory };
 
     fn from(_error: AllocError) -> SetupFault {
+        SetupFault::Memory
+    }
+}
+
+impl<T: Drop> From<AllocFailed<T>> for SetupFault {
+    ghost use Rattle.world_setup.specs.declared.fault.SetupFault.{SetupFault};
+
+    ghost from_gives = { λ _ fault. fault ≡ SetupFault.Memory };
+
+    fn from(_error: AllocFailed<T>) -> SetupFault {
         SetupFault::Memory
     }
 }

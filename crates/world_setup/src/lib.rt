@@ -11,6 +11,7 @@ mod keys;
 mod numbers;
 mod order;
 mod page_lists;
+mod protection;
 mod scripts;
 mod walk;
 mod words;
