@@ -1,6 +1,5 @@
 -- The lines of scripts, one script after the other.
-use Rattle.std.proofs.Common.{◌≡◌, ℕ, ◌+◌, ◌<◌, ◌≤◌, not, Bool, List, ◌∷◌, length, drop, get_or, Option, Some, None, option_map, sum_by, position, sym, ap, ◌∙◌, subst, arith}
-use Rattle.std.specs.Option.{option_or}
+use Rattle.std.proofs.Common.{◌≡◌, ℕ, ◌+◌, ◌<◌, ◌≤◌, not, Bool, List, ◌∷◌, length, drop, get_or, Option, None, sum_by, position, sym, ap, ◌∙◌, arith}
 use Rattle.std.proofs.lemmas.List.{drop_more}
 use Rattle.std.proofs.lemmas.List.Sums.{sum_by-cons}
 use Rattle.pl_history.specs.declared.line.Line.{Line}

@@ -1,8 +1,7 @@
 -- Each line that a text gives has the form that every setup's lines have.
-use Rattle.std.proofs.Common.{◌≡◌, ℕ, ◌*◌, ◌&&◌, nat_le, Bool, true, false, List, [], ◌∷◌, length, codes, Option, Some, None, option_map, option_and_then, if◌then◌else◌, Result, Ok, Err, refl, sym, ap, ◌∙◌, subst, sum_by, arith, length-append}
+use Rattle.std.proofs.Common.{◌≡◌, ℕ, ◌*◌, ◌&&◌, nat_le, true, List, [], ◌∷◌, length, codes, Option, Some, None, option_and_then, Result, Ok, Err, refl, sym, ap, ◌∙◌, sum_by, arith, length-append}
 use Rattle.std.specs.Str.{bytes_eq}
 use Rattle.std.specs.List.{list_all, flat_map}
-use Rattle.std.proofs.lemmas.Option.{same_Some}
 use Rattle.std.proofs.lemmas.Bool.Decides.{nat_tests}
 use Rattle.std.proofs.lemmas.List.FromFn.{length-range_with_len}
 use Rattle.std.proofs.lemmas.List.Sums.{sum_by-cons}
@@ -20,7 +19,7 @@ use Rattle.world_setup.specs.declared.page_lists.PageRange.{PageRange}
 use Rattle.world_setup.specs.Words.{parts_of, words_of}
 use Rattle.world_setup.specs.Arguments.{within, number_of, short_of, enclave_of, budget_of, length_of, address_of, perms_of_text, decoded, bytes_of_hex, hex_bytes_of, name_of}
 use Rattle.world_setup.specs.PageLists.{all_ranges, page_count, range_pages, pages_of_ranges, page_list_of}
-use Rattle.world_setup.specs.Forms.{both, all_three, line_of_one, line_of_two, line_of_three, line_of_words, line_of, attack_line_of_one, attack_line_of_two, attack_line_of_three, attack_line_of_words, attack_line_of}
+use Rattle.world_setup.specs.Forms.{line_of_one, line_of_two, line_of_three, line_of_words, line_of, attack_line_of_one, attack_line_of_two, attack_line_of_three, attack_line_of_words, attack_line_of}
 use Rattle.world_setup.proofs.Parts.{both_parts}
 use Rattle.world_setup.proofs.Passes.{Passes, none_passes, some_passes, if_passes, guarded_passes, map_passes, both_passes, three_pass}
 

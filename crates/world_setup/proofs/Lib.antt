@@ -11,6 +11,7 @@ pub mod Passes
 pub mod Ranges
 pub mod FirstWords
 pub mod FaultSteps
+pub mod FaultLemmas
 pub mod FormLemmas
 pub mod EntryLemmas
 pub mod OrderLemmas

@@ -1,6 +1,5 @@
 use Rattle.std.proofs.Common.{sym, ◌∙◌}
 use Rattle.pl_history.specs.Rules.{names_known}
-use Rattle.world_setup.specs.Faults.{first_unknown}
 use Rattle.world_setup.proofs.FaultSteps.{passes}
 use Rattle.world_setup.proofs.faults.first_unknown.Goals as goal
 

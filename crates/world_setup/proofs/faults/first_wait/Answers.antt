@@ -1,6 +1,5 @@
-use Rattle.std.proofs.Common.{sym, ◌∙◌, ◌+◌, arith}
+use Rattle.std.proofs.Common.{sym, ◌∙◌, arith}
 use Rattle.pl_history.specs.Rules.{waits_known}
-use Rattle.world_setup.specs.Faults.{first_wait}
 use Rattle.world_setup.proofs.FaultSteps.{passes}
 use Rattle.world_setup.proofs.faults.first_wait.Goals as goal
 

@@ -1,4 +1,4 @@
-use Rattle.std.proofs.Common.{◌≡◌, ◌+◌, ◌-◌, ◌≤◌, length}
+use Rattle.std.proofs.Common.{◌≡◌, ◌-◌, ◌≤◌, length}
 use Rattle.std.specs.Option.{option_copied}
 use Rattle.world_setup.specs.Words.{words_after}
 use Rattle.world_setup.specs.Order.{actors_then, actors_from, order_of}
