@@ -16,3 +16,4 @@ pub mod FormLemmas
 pub mod EntryLemmas
 pub mod OrderLemmas
 pub mod EntryWalk
+pub mod FirstRules

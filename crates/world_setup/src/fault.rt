@@ -92,3 +92,13 @@ pub(crate) fn after(before: usize, found: Option<usize>) -> Option<usize>
         None => None,
     }
 }
+
+pub(crate) fn wide(found: Option<u32>) -> Option<usize>
+    ensures value { result ≡ found }
+    ensures small { IfSome result (λ at. at < 2 ^ 32) }
+{
+    match found {
+        Some(at) => Some(at as usize),
+        None => None,
+    }
+}

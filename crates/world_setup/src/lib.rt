@@ -12,8 +12,10 @@ mod numbers;
 mod order;
 mod page_lists;
 mod protection;
+mod reading;
 mod scripts;
 mod walk;
 mod words;
 
 pub use fault::SetupFault;
+pub use reading::{MOST_TEXT, read_setup};
