@@ -26,7 +26,11 @@ fn count_lines(scripts: &[Listed<Line>]) -> usize
     requires { sum_by length scripts.now ≤ 65536 }
     ensures { result ≡ sum_by length scripts.now }
 {
-    scripts.iter().map(|lines| lines.len()).sum()
+    let mut count = 0;
+    for lines in scripts {
+        count += lines.len();
+    }
+    count
 }
 
 // Rules 23 and 24.
