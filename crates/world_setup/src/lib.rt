@@ -5,6 +5,8 @@ mod arguments;
 mod entries;
 mod fault;
 mod faults;
+#[cfg(test)]
+mod form_tests;
 mod forms;
 mod images;
 mod keys;
