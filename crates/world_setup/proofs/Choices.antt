@@ -1,5 +1,5 @@
 -- What a value that was chosen or read says of the choice.
-use Rattle.std.proofs.Common.{◌≡◌, ℕ, ◌+◌, ◌≤◌, ◌&&◌, Bool, true, false, List, [], ◌∷◌, length, Option, Some, None, if◌then◌else◌, Ok, refl, arith}
+use Rattle.std.proofs.Common.{◌≡◌, ◌+◌, ◌≤◌, Bool, true, false, List, [], ◌∷◌, length, Option, Some, None, if◌then◌else◌, Ok, refl, arith}
 use Rattle.std.specs.List.{list_all, filter_map}
 use Rattle.world_setup.specs.Checked.{Checked}
 

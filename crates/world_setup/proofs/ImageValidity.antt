@@ -1,5 +1,5 @@
 -- The images that rules 14 to 18 let through.
-use Rattle.std.proofs.Common.{◌≡◌, ℕ, ◌+◌, ◌-◌, ◌≤◌, ◌==◌, ◌&&◌, nat_le, le-leb, min, Bool, true, false, List, [], ◌∷◌, ◌++◌, length, take, replicate, Option, Some, None, option_map, option_and_then, Ok, codes, refl, subst, arith, length-append}
+use Rattle.std.proofs.Common.{◌≡◌, ℕ, ◌-◌, ◌≤◌, ◌&&◌, true, List, [], ◌∷◌, length, take, replicate, Option, Some, None, option_map, Ok, codes, refl, subst, arith, length-append}
 use Rattle.std.specs.List.{list_all, filter_map, flat_map}
 use Rattle.std.proofs.lemmas.Bool.{and_parts}
 use Rattle.std.proofs.lemmas.List.{length-take, length-replicate}
@@ -9,7 +9,6 @@ use Rattle.pl_base.specs.declared.perms.Perms.{Perms}
 use Rattle.mon_image.specs.declared.page.ImagePage.{ImagePage}
 use Rattle.mon_image.specs.declared.image.Image.{Image}
 use Rattle.pl_history.specs.Rules.{is_within, are_perms, is_page, is_entry, is_image}
-use Rattle.world_setup.specs.Checked.{Checked, ◌>>=◌}
 use Rattle.world_setup.specs.Walk.{members_in, text_at}
 use Rattle.world_setup.specs.Arguments.{perms_of_text}
 use Rattle.world_setup.specs.Keys.{images_in, pages_in}

@@ -1,9 +1,8 @@
 -- The numbers that rules 4 to 10 let through.
-use Rattle.std.proofs.Common.{◌≡◌, ℕ, pos, negsuc, ◌&&◌, nat_le, nat_lt, Bool, true, List, Option, Some, None, option_and_then, Ok, codes, IsTrue, subst, refl}
+use Rattle.std.proofs.Common.{◌≡◌, ℕ, pos, negsuc, ◌&&◌, nat_le, nat_lt, true, Option, Some, None, option_and_then, Ok, codes, IsTrue, subst}
 use Rattle.toml.specs.Data.{Data, string, integer, float, boolean, datetime, array, table, Members, get_member}
 use Rattle.pl_history.specs.Rules.{is_within, guarded_of, pages_of}
 use Rattle.world_setup.specs.declared.numbers.Numbers.{Numbers}
-use Rattle.world_setup.specs.Checked.{Checked, ◌>>=◌, unless, some_of}
 use Rattle.world_setup.specs.Walk.{number_in, text_at}
 use Rattle.world_setup.specs.Numbers.{number_at, choice_of, numbers_of}
 use Rattle.world_setup.proofs.Chains.{unless_held, some_held}

@@ -1,5 +1,5 @@
 -- The entries and the order that rules 12 and 13 let through.
-use Rattle.std.proofs.Common.{◌≡◌, ℕ, ◌+◌, ◌≤◌, ◌&&◌, nat_le, le-leb, leb-true, Bool, true, false, List, [], ◌∷◌, length, Option, Some, None, option_and_then, Result, Ok, Err, codes, IsTrue, refl, subst, arith}
+use Rattle.std.proofs.Common.{◌≡◌, ℕ, ◌+◌, ◌≤◌, ◌&&◌, nat_le, le-leb, leb-true, true, List, [], ◌∷◌, length, Option, Some, None, option_and_then, Result, Ok, Err, codes, refl, subst, arith}
 use Rattle.std.specs.Option.{option_map_or}
 use Rattle.std.specs.List.{list_all}
 use Rattle.std.proofs.lemmas.Bool.{and_parts}
@@ -27,7 +27,7 @@ fits_above before d entry is =
     option_and_then_some (if_above before) (option_and_then entry_of (as_str d)) entry is (λ found from kept.
     let both = chosen (is_within (before + 1) 12 found.0) (Some found) entry kept in
     subst (Fits before) (same_Some found entry both.1) (
-      option_and_then_some entry_of (as_str d) found from (λ text at read. record { above = both.0; valid = (and_parts (is_within 2 12 found.0) (is_valid found.1) (entry_is_valid text found read)).1 })
+    option_and_then_some entry_of (as_str d) found from (λ text at read. record { above = both.0; valid = (and_parts (is_within 2 12 found.0) (is_valid found.1) (entry_is_valid text found read)).1 })
     ))
 
 record Ascend (before : ℕ) (entries : List (ℕ × Rule)) : Type 0 where

@@ -1,16 +1,13 @@
 -- The scripts that rules 19 to 22 let through.
-use Rattle.std.proofs.Common.{◌≡◌, ℕ, ◌+◌, ◌≤◌, ◌==◌, ◌&&◌, nat_le, le-leb, leb-true, Bool, true, false, List, [], ◌∷◌, ◌++◌, length, map, Option, Some, None, Ok, codes, sum_by, refl, subst, sym, ap, ◌∙◌, arith, length-append}
-use Rattle.std.specs.List.{list_all, filter_map, flat_map, position_from}
+use Rattle.std.proofs.Common.{◌≡◌, ℕ, ◌+◌, ◌≤◌, ◌==◌, nat_le, leb-true, true, List, [], ◌∷◌, length, map, Option, Some, None, Ok, codes, sum_by, refl, subst, ◌∙◌, arith, length-append}
+use Rattle.std.specs.List.{list_all, flat_map}
 use Rattle.std.proofs.lemmas.Bool.{and_parts}
 use Rattle.std.proofs.lemmas.Bool.Decides.{nat_tests}
 use Rattle.std.proofs.lemmas.List.{length-map}
 use Rattle.std.proofs.lemmas.List.Sums.{sum_by-cons}
 use Rattle.toml.specs.Data.{Data, string, integer, float, boolean, datetime, array, table, Members, get_member}
-use Rattle.pl_history.specs.declared.line.Line.{Line}
-use Rattle.pl_history.specs.declared.line.AttackLine.{AttackLine}
 use Rattle.pl_history.specs.Rules.{is_line, is_attack_line}
 use Rattle.world_setup.specs.declared.scripts.Scripts.{Scripts}
-use Rattle.world_setup.specs.Checked.{Checked, ◌>>=◌, unless}
 use Rattle.world_setup.specs.Walk.{list_of, items_at}
 use Rattle.world_setup.specs.Keys.{harts_in}
 use Rattle.world_setup.specs.Forms.{line_of, attack_line_of}

@@ -1,15 +1,14 @@
 -- A setup whose rules hold is one.
-use Rattle.std.proofs.Common.{◌≡◌, ℕ, ◌+◌, ◌≤◌, ◌&&◌, nat_le, le-leb, leb-true, Bool, true, List, [], length, sum_by, Option, Some, None, option_map, Ok, refl, subst, sym, ap, ◌∙◌, arith}
+use Rattle.std.proofs.Common.{◌≡◌, ℕ, ◌+◌, ◌≤◌, nat_le, le-leb, leb-true, true, List, [], length, sum_by, Option, Some, None, option_map, Ok, refl, subst, arith}
 use Rattle.std.specs.List.{list_all}
 use Rattle.std.proofs.lemmas.Bool.{and_parts}
 use Rattle.toml.specs.Data.{Members}
 use Rattle.pl_base.specs.declared.actor.Actor.{Actor}
 use Rattle.mon_image.specs.declared.image.Image.{Image}
 use Rattle.rv_pmp.specs.declared.rule.Rule.{Rule}
-use Rattle.pl_history.specs.Rules.{is_within, is_image, is_line, is_attack_line, names_known, all_wait, attacks_known, counts_of, IsSetup}
+use Rattle.pl_history.specs.Rules.{names_known, all_wait, attacks_known, counts_of, IsSetup}
 use Rattle.world_setup.specs.declared.numbers.Numbers.{Numbers}
 use Rattle.world_setup.specs.declared.scripts.Scripts.{Scripts}
-use Rattle.world_setup.specs.Checked.{Checked, ◌>>=◌, none_at}
 use Rattle.world_setup.specs.Numbers.{numbers_of}
 use Rattle.world_setup.specs.Protection.{protection_of, order_at}
 use Rattle.world_setup.specs.Images.{images_of}

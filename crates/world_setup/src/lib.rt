@@ -16,6 +16,8 @@ mod page_lists;
 mod protection;
 mod reading;
 mod scripts;
+#[cfg(test)]
+mod tests;
 mod walk;
 mod words;
 

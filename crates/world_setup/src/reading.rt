@@ -46,7 +46,10 @@ fn lines_known(
 {
     let lines = scripts.lines.as_slice();
     let attacks = scripts.attacker.as_slice();
-    none_at(wide(first_unknown(numbers.enclaves, images as u8, lines)), 23)?;
+    none_at(
+        wide(first_unknown(numbers.enclaves, images as u8, lines)),
+        23,
+    )?;
     let counts = counts_of(alloc, lines, attacks)?;
     let counts = counts.as_slice();
     none_at(wide(first_wait(counts, lines)), 24)?;
