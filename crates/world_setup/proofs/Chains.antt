@@ -40,7 +40,8 @@ pass_from : {X : Type 0} (p : X → Bool) (i : ℕ) (x : X) (xs : List X) (b : B
 pass_from p i x xs true e rest none = let none' = rw e at none in rw e (rest none')
 pass_from p i x xs false e rest none = let none' = rw e at none in cc
 
-all_from : {X : Type 0} (p : X → Bool) (i : ℕ) (xs : List X) → position_from (λ y. not (p y)) i xs ≡ None → list_all p xs ≡ true
+-- the same from a position on
+pub all_from : {X : Type 0} (p : X → Bool) (i : ℕ) (xs : List X) → position_from (λ y. not (p y)) i xs ≡ None → list_all p xs ≡ true
 all_from p i [] none = refl
 all_from p i (x ∷ xs) none = pass_from p i x xs (p x) refl (all_from p (i + 1) xs) none
 

@@ -1,6 +1,7 @@
 -- What a value that was chosen or read says of the choice.
-use Rattle.std.proofs.Common.{◌≡◌, ◌+◌, ◌≤◌, Bool, true, false, List, [], ◌∷◌, length, Option, Some, None, if◌then◌else◌, Ok, refl, arith}
+use Rattle.std.proofs.Common.{◌≡◌, ℕ, ◌+◌, ◌≤◌, Bool, true, false, List, [], ◌∷◌, length, Option, Some, None, is_some, option_map, if◌then◌else◌, Ok, refl, arith}
 use Rattle.std.specs.List.{list_all, filter_map}
+use Rattle.std.proofs.lemmas.Bool.{and_parts}
 use Rattle.world_setup.specs.Checked.{Checked}
 
 -- what a test chose
@@ -32,3 +33,18 @@ all_by test f x xs (Some y) e pass rest = rw (e, pass y e) rest
 pub all_chosen : {X Y : Type 0} (test : Y → Bool) (f : X → Option Y) (xs : List X) → ((x : X) (y : Y) → f x ≡ Some y → test y ≡ true) → list_all test (filter_map f xs) ≡ true
 all_chosen test f [] pass = refl
 all_chosen test f (x ∷ xs) pass = all_by test f x xs (f x) refl (pass x) (all_chosen test f xs pass)
+
+counted_by : {X Y : Type 0} (f : X → Option Y) (x : X) (xs : List X) (o : Option Y) → f x ≡ o → is_some o ≡ true → length (filter_map f xs) ≡ length xs → length (filter_map f (x ∷ xs)) ≡ length xs + 1
+counted_by f x xs None e some rest = cc
+counted_by f x xs (Some y) e some rest = rw e (omega (arith, rest))
+
+-- as many are chosen as there are, where each is
+pub all_counted : {X Y : Type 0} (f : X → Option Y) (xs : List X) → list_all (λ x. is_some (f x)) xs ≡ true → length (filter_map f xs) ≡ length xs
+all_counted f [] all = refl
+all_counted f (x ∷ xs) all =
+    let both = and_parts (is_some (f x)) (list_all (λ y. is_some (f y)) xs) all in
+    omega (arith, counted_by f x xs (f x) refl both.0 (all_counted f xs both.1))
+
+pub none_mapped : (f : ℕ → ℕ) (o : Option ℕ) → option_map f o ≡ None → o ≡ None
+none_mapped f None e = refl
+none_mapped f (Some x) e = cc

@@ -24,3 +24,5 @@ pub mod ImageValidity
 pub mod ScriptValidity
 pub mod LineCounts
 pub mod Validity
+pub mod ImageReads
+pub mod ScriptReads

@@ -1,5 +1,5 @@
 -- A setup whose rules hold is one.
-use Rattle.std.proofs.Common.{◌≡◌, ℕ, ◌+◌, ◌≤◌, nat_le, le-leb, leb-true, true, List, [], length, sum_by, Option, Some, None, option_map, Ok, refl, subst, arith}
+use Rattle.std.proofs.Common.{◌≡◌, ℕ, ◌+◌, ◌≤◌, nat_le, le-leb, leb-true, true, List, [], length, sum_by, option_map, Ok, refl, subst, arith}
 use Rattle.std.specs.List.{list_all}
 use Rattle.std.proofs.lemmas.Bool.{and_parts}
 use Rattle.toml.specs.Data.{Members}
@@ -17,6 +17,7 @@ use Rattle.world_setup.specs.Faults.{first_unknown, first_wait, first_attack}
 use Rattle.world_setup.specs.SetupOf.{AreFew, lines_known, parts_of}
 use Rattle.world_setup.proofs.Chains.{none_held, none_last}
 use Rattle.world_setup.proofs.FaultLemmas.{names_are_known, waits_are_known, attacks_are_known}
+use Rattle.world_setup.proofs.Choices.{none_mapped}
 use Rattle.world_setup.proofs.NumberValidity.{numbers_valid}
 use Rattle.world_setup.proofs.ProtectionValidity.{protection_valid, order_valid}
 use Rattle.world_setup.proofs.ImageValidity.{images_valid}
@@ -26,10 +27,6 @@ record AreKnown (n : Numbers) (images : ℕ) (s : Scripts) : Type 0 where
   names : list_all (list_all (names_known n.enclaves images)) s.lines ≡ true
   waits : all_wait (counts_of s.lines s.attacker) 0 s.lines ≡ true
   attacks : attacks_known n.zones (counts_of s.lines s.attacker) n.harts [] 0 s.attacker ≡ true
-
-none_mapped : (f : ℕ → ℕ) (o : Option ℕ) → option_map f o ≡ None → o ≡ None
-none_mapped f None e = refl
-none_mapped f (Some x) e = cc
 
 lines_valid : (n : Numbers) (images : ℕ) (s : Scripts) → lines_known n images s ≡ Ok tt → AreKnown n images s
 unfolding lines_known

@@ -1,5 +1,5 @@
 -- Rules 19 to 22: the scripts of the harts, and that of the attacker.
-use Rattle.std.specs.Prelude.{ℕ, ◌+◌, ◌==◌, ◌&&◌, nat_le, not, Bool, true, false, List, length, map, codes, Option, Some, None, is_some, option_map, Ok}
+use Rattle.std.specs.Prelude.{◌≡◌, sum_by, ℕ, ◌+◌, ◌==◌, ◌&&◌, nat_le, not, Bool, true, false, List, length, map, codes, Option, Some, None, is_some, option_map, Ok}
 use Rattle.std.specs.List.{list_all, filter_map, flat_map, position_from}
 use Rattle.toml.specs.Data.{Data, array, Members, get_member, as_str}
 use Rattle.pl_history.specs.declared.line.Line.{Line}
@@ -78,3 +78,8 @@ scripts_of harts t = do
   _ ← scripts_hold harts t
   _ ← lines_hold (script_texts t) (attack_texts t)
   Ok (record { lines = map script_of (harts_in t); attacker = attack_script t })
+
+-- each text became a line
+pub record IsRead (t : Members) (s : Scripts) : Type 0 where
+  pub lines : sum_by length s.lines ≡ length (script_texts t)
+  pub attacks : length s.attacker ≡ length (attack_texts t)

@@ -324,7 +324,8 @@ fn all_images(alloc: Global, table: &Table) -> Result<Listed<Image>, Memory>
 // The images of a setup.
 #[tactic(auto, using(crate::proofs::Chains::fault_on), unfolding(crate::specs::Images::images_of))]
 pub(crate) fn images_of(alloc: Global, table: &Table) -> Result<Listed<Image>, SetupFault>
-    ensures { Answers (images_of (table_view table.now)) result }
+    ensures images { Answers (images_of (table_view table.now)) result }
+    ensures all { IfOk result (λ images. length images ≡ length (images_in (table_view table.now))) }
 {
     images_hold(table)?;
     all_pages_hold(alloc, table)?;

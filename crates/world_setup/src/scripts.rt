@@ -7,7 +7,7 @@ ghost use Rattle.toml.specs.View.{view, table_view};
 ghost use Rattle.world_setup.specs.Answers.{Answers};
 ghost use Rattle.world_setup.specs.Forms.{line_of, attack_line_of};
 ghost use Rattle.world_setup.specs.Keys.{harts_in};
-ghost use Rattle.world_setup.specs.Scripts.{script_at, is_script, has_script, is_hart_array, is_attack_array, texts_in, hart_texts, script_texts, attack_texts, has_no_form, has_no_attack_form, scripts_hold, lines_hold, script_of, attack_script, scripts_of};
+ghost use Rattle.world_setup.specs.Scripts.{script_at, is_script, has_script, is_hart_array, is_attack_array, texts_in, hart_texts, script_texts, attack_texts, has_no_form, has_no_attack_form, scripts_hold, lines_hold, script_of, attack_script, scripts_of, IsRead};
 
 use crate::fault::{SetupFault, after, none_at, unless};
 use crate::forms::{attack_line_of, line_of};
@@ -298,7 +298,8 @@ fn attack_script(alloc: Global, table: &Table) -> Result<Listed<AttackLine>, Mem
 // The scripts of a setup.
 #[tactic(auto, using(crate::proofs::Chains::fault_on), unfolding(crate::specs::Scripts::scripts_of))]
 pub(crate) fn scripts_of(alloc: Global, harts: u8, table: &Table) -> Result<Scripts, SetupFault>
-    ensures { Answers (scripts_of harts (table_view table.now)) result }
+    ensures scripts { Answers (scripts_of harts (table_view table.now)) result }
+    ensures all { IfOk result (λ scripts. IsRead (table_view table.now) scripts) }
 {
     scripts_hold(harts, table)?;
     all_lines_hold(alloc, table)?;
