@@ -16,7 +16,7 @@ lines_counted : (harts : List Data) → list_all (λ text. is_some (line_of text
 lines_counted [] all = refl
 lines_counted (hart ∷ harts) all =
     let both = and_parts (list_all (λ text. is_some (line_of text)) (hart_texts hart)) (list_all (λ text. is_some (line_of text)) (flat_map hart_texts harts))
-        (sym (list_all-append (λ text. is_some (line_of text)) (hart_texts hart) (flat_map hart_texts harts)) ∙ all) in
+    (sym (list_all-append (λ text. is_some (line_of text)) (hart_texts hart) (flat_map hart_texts harts)) ∙ all) in
     omega (
       arith,
       sum_by-cons length (script_of hart) (map script_of harts),

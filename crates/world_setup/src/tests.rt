@@ -1,6 +1,6 @@
 use crate::{MOST_TEXT, SetupFault, read_setup};
-use pl_base::Perms;
-use pl_history::ChoiceName;
+use mon_image::Image;
+use pl_history::SetupParts;
 use std::test::Fail;
 
 const NUMBERS: &str =
@@ -359,11 +359,17 @@ fn bounds_are_exact(rt: HostRuntime) -> Result<(), Fail> {
             "{front} {count}"
         );
     }
-    let mut blank = Vec::new(rt.alloc());
-    blank.resize(MOST_TEXT, b' ')?;
-    assert_eq!(rt; fault(rt, &blank), Some((4, 0)));
-    blank.push(b' ')?;
-    assert_eq!(rt; fault(rt, &blank), Some((1, 0)));
+    Ok(())
+}
+
+// Blanks, in a text that isn't too long and in one that is.
+#[test]
+fn texts_have_at_most_16_mib(rt: HostRuntime) -> Result<(), Fail> {
+    for (size, rule) in [(MOST_TEXT, 4), (MOST_TEXT + 1, 1)] {
+        let mut blank = Vec::new(rt.alloc());
+        blank.resize(size, b' ')?;
+        assert_eq!(rt; fault(rt, blank.as_slice()), Some((rule, 0)));
+    }
     Ok(())
 }
 
@@ -386,46 +392,53 @@ lines = [\"create 0 0 20\", \"run 0 10\"]
 lines = []
 ";
 
+// What a setup has beside its numbers and images.
+fn shown(rt: HostRuntime, parts: &SetupParts) -> Result<String, Fail> {
+    Ok(format!(in rt.alloc();
+        "{:?} {:?} {:?} {:?} {:?}",
+        parts.choice, parts.pmp, parts.order, parts.lines, parts.attacker
+    )?)
+}
+
+const SHOWN: &str =
+    "Least Listed { items: [(2, Rule { cfg: 25, addr: 536892927 }), (4, Rule { cfg: 0, addr: 0 })] } Listed { items: [Hart(HartNo(0)), Ack(HartNo(1)), Attacker] } Listed { items: [Listed { items: [Create { e: EncNo(0), image: 0, pages: Listed { items: [20] } }, Run { e: EncNo(0), budget: 10 }] }, Listed { items: [] }] } Listed { items: [Write { pa: 2147565568, bytes: Listed { items: [146] } }] }";
+
+// The entry of an image, and each page's permissions, size and first bytes.
+fn shown_image(rt: HostRuntime, image: &Image) -> Result<String, Fail> {
+    let mut all = format!(in rt.alloc(); "{:x}", image.entry)?;
+    for page in image.pages.as_slice() {
+        let bytes = page.bytes.as_slice();
+        let one = format!(in rt.alloc();
+            " {:?} {} {:?}",
+            page.perms,
+            bytes.len(),
+            bytes.split_at(3).0
+        )?;
+        all.push_str(one.as_str())?;
+    }
+    Ok(all)
+}
+
 #[test]
 fn reads_each_part(rt: HostRuntime) -> Result<(), Fail> {
     let setup = read_setup(rt.alloc(), WHOLE.as_bytes())?;
     let parts = setup.parts();
-    assert_eq!(rt;
-        (
-            parts.harts,
-            parts.zones,
-            parts.slots,
-            parts.tables,
-            parts.enclaves
-        ),
-        (2, 3, 4, 5, 6)
+    let numbers = (
+        parts.harts,
+        parts.zones,
+        parts.slots,
+        parts.tables,
+        parts.enclaves,
     );
-    assert_eq!(rt; parts.choice, ChoiceName::Least);
-    let pmp = format!(in rt.alloc(); "{:?}", parts.pmp)?;
-    assert_eq!(rt;
-        pmp.as_str(),
-        "Listed { items: [(2, Rule { cfg: 25, addr: 536892927 }), (4, Rule { cfg: 0, addr: 0 })] }"
-    );
-    let order = format!(in rt.alloc(); "{:?}", parts.order)?;
-    assert_eq!(rt;
-        order.as_str(),
-        "Listed { items: [Hart(HartNo(0)), Ack(HartNo(1)), Attacker] }"
-    );
-    let scripts = format!(in rt.alloc(); "{:?} {:?}", parts.lines, parts.attacker)?;
-    assert_eq!(rt;
-        scripts.as_str(),
-        "Listed { items: [Listed { items: [Create { e: EncNo(0), image: 0, pages: Listed { items: [20] } }, Run { e: EncNo(0), budget: 10 }] }, Listed { items: [] }] } Listed { items: [Write { pa: 2147565568, bytes: Listed { items: [146] } }] }"
-    );
+    assert_eq!(rt; numbers, (2, 3, 4, 5, 6));
+    assert_eq!(rt; shown(rt, parts)?.as_str(), SHOWN);
     assert_eq!(rt; parts.images.len(), 1);
     for image in parts.images.as_slice() {
-        assert_eq!(rt; image.entry, 0x10004);
-        let pages = image.pages.as_slice();
-        assert_eq!(rt; pages.len(), 2);
-        for page in pages {
-            assert_eq!(rt; page.bytes.as_slice().len(), 4096);
-        }
-        assert!(rt; pages[0].bytes.as_slice().starts_with(&[0x93, 0x08, 0, 0]));
-        assert_eq!(rt; (pages[0].perms, pages[1].perms), (Perms(5), Perms(3)));
+        let text = shown_image(rt, image)?;
+        assert_eq!(rt;
+            text.as_str(),
+            "10004 Perms(5) 4096 [147, 8, 0] Perms(3) 4096 [0, 0, 0]"
+        );
     }
     Ok(())
 }
