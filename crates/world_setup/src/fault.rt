@@ -94,6 +94,7 @@ pub(crate) fn after(before: usize, found: Option<usize>) -> Option<usize>
     }
 }
 
+// The same position, as a `usize`.
 pub(crate) fn wide(found: Option<u32>) -> Option<usize>
     ensures value { result ≡ found }
     ensures small { IfSome result (λ at. at < 2 ^ 32) }

@@ -1,9 +1,8 @@
 // Rules 14 to 18: the images, and their pages.
-ghost use Rattle.std.specs.Prelude.{◌≡◌, ◌<◌, ◌≤◌, ◌++◌, not, is_some, map, length, position, option_map, option_and_then, codes, IfOk, IfSome, OnOk, Ok};
-ghost use Rattle.std.specs.List.{list_all, filter_map, flat_map};
+ghost use Rattle.std.specs.Prelude.{◌≡◌, ◌<◌, ◌≤◌, ◌++◌, not, is_some, map, length, position, option_map, IfOk, IfSome, OnOk, Ok};
+ghost use Rattle.std.specs.List.{filter_map, flat_map};
 ghost use Rattle.std.specs.Option.{option_to_list};
 ghost use Rattle.toml.specs.View.{view, table_view};
-ghost use Rattle.pl_io.specs.Numbers.{is_hex_digit};
 ghost use Rattle.pl_history.specs.Rules.{is_entry};
 ghost use Rattle.world_setup.specs.Arguments.{bytes_of_hex};
 ghost use Rattle.world_setup.specs.Answers.{Answers};

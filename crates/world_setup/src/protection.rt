@@ -1,6 +1,5 @@
 // Rules 12 and 13: the protection entries, and the order of the first turns.
-ghost use Rattle.std.specs.Prelude.{◌≡◌, ◌≤◌, ◌+◌, ◌<◌, ◌^◌, length, map, option_map, codes, IfOk, IfSome};
-ghost use Rattle.toml.specs.Data.{get_member};
+ghost use Rattle.std.specs.Prelude.{◌≡◌, ◌≤◌, map, option_map, IfOk, IfSome};
 ghost use Rattle.toml.specs.View.{view, table_view};
 ghost use Rattle.world_setup.specs.Answers.{Answers};
 ghost use Rattle.world_setup.specs.Protection.{entry_above, entries_from, entries_of, protection_of, order_in, order_at};

@@ -1,9 +1,7 @@
 // A setup from its text.
-ghost use Rattle.std.specs.Prelude.{◌≡◌, ◌+◌, ◌<◌, ◌≤◌, ◌^◌, length, option_map, sum_by, Ok, IfSome};
+ghost use Rattle.std.specs.Prelude.{◌≡◌, ◌≤◌, length, sum_by};
 ghost use Rattle.toml.specs.View.{table_view};
 ghost use Rattle.world_setup.specs.Answers.{Answers};
-ghost use Rattle.world_setup.specs.Images.{images_of};
-ghost use Rattle.world_setup.specs.Scripts.{scripts_of};
 ghost use Rattle.world_setup.specs.SetupOf.{AreFew, lines_known, setup_of_table, setup_of};
 
 use crate::fault::{SetupFault, after, none_at, unless, wide};

@@ -1,13 +1,13 @@
 // Rules 19 to 22: the scripts of the harts, and that of the attacker.
-ghost use Rattle.std.specs.Prelude.{◌≡◌, ◌+◌, ◌<◌, ◌^◌, ◌++◌, map, length, option_map, codes, IfOk, IfSome, OnOk};
+ghost use Rattle.std.specs.Prelude.{◌≡◌, ◌+◌, ◌<◌, ◌++◌, map, length, option_map, IfOk, IfSome, OnOk};
 ghost use Rattle.std.specs.List.{list_all, filter_map, flat_map, position_from};
 ghost use Rattle.std.specs.Option.{option_to_list};
-ghost use Rattle.toml.specs.Data.{get_member, as_str};
+ghost use Rattle.toml.specs.Data.{as_str};
 ghost use Rattle.toml.specs.View.{view, table_view};
 ghost use Rattle.world_setup.specs.Answers.{Answers};
 ghost use Rattle.world_setup.specs.Forms.{line_of, attack_line_of};
 ghost use Rattle.world_setup.specs.Keys.{harts_in};
-ghost use Rattle.world_setup.specs.Scripts.{script_at, is_script, has_script, is_hart_array, is_attack_array, texts_in, hart_texts, script_texts, attack_texts, has_no_form, has_no_attack_form, scripts_hold, lines_hold, script_of, attack_script, scripts_of, IsRead};
+ghost use Rattle.world_setup.specs.Scripts.{is_script, has_script, is_hart_array, is_attack_array, texts_in, hart_texts, script_texts, attack_texts, has_no_form, has_no_attack_form, scripts_hold, lines_hold, script_of, attack_script, scripts_of, IsRead};
 
 use crate::fault::{SetupFault, after, none_at, unless};
 use crate::forms::{attack_line_of, line_of};
