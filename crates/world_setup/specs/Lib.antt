@@ -1,0 +1,15 @@
+pub mod Checked
+pub mod Answers
+pub mod Walk
+pub mod Keys
+pub mod Numbers
+pub mod Images
+pub mod Scripts
+pub mod Protection
+pub mod Words
+pub mod Arguments
+pub mod PageLists
+pub mod Forms
+pub mod Entries
+pub mod Order
+pub mod Faults

@@ -1,0 +1,114 @@
+// A list of pages: numbers and ranges, with commas between.
+ghost use Rattle.std.specs.Prelude.{◌≡◌, ◌++◌, nat_le, map, sum_by, option_map, IfOk, OnOk};
+ghost use Rattle.std.specs.List.{flat_map};
+ghost use Rattle.world_setup.specs.PageLists.{range_from, range_of, all_ranges, page_count, range_pages, pages_of_ranges, page_list_of};
+
+use crate::arguments::number_of;
+use crate::words::parts_of;
+use pl_base::{Listed, Memory};
+use std::alloc::Global;
+
+// The most pages of a list.
+const MOST_PAGES: u64 = 512;
+
+/// Pages from the first to the last, both in it.
+#[derive(Clone, Copy)]
+pub(crate) struct PageRange {
+    first: u32,
+    last: u32,
+}
+
+impl PageRange {
+    fn count(&self) -> u64
+        ensures { result ≡ page_count self.now }
+    {
+        (u64::from(self.last) + 1).saturating_sub(u64::from(self.first))
+    }
+}
+
+fn range_from(first: Option<u32>, last: Option<u32>) -> Option<PageRange>
+    ensures { result ≡ range_from first last }
+{
+    match (first, last) {
+        (Some(first), Some(last)) if first <= last => Some(PageRange { first, last }),
+        _ => None,
+    }
+}
+
+// `a`, or `a-b`.
+fn range_of(alloc: Global, text: &[u8]) -> Result<Option<PageRange>, Memory>
+    ensures { IfOk result (λ found. found ≡ range_of text.now) }
+{
+    let parts = parts_of(alloc, b'-', text)?;
+    match parts.as_slice() {
+        [page] => Ok(range_from(number_of(page), number_of(page))),
+        [first, last] => Ok(range_from(number_of(first), number_of(last))),
+        _ => Ok(None),
+    }
+}
+
+// A range for each text.
+fn all_ranges(alloc: Global, texts: &[&[u8]]) -> Result<Option<Vec<PageRange>>, Memory>
+    ensures { IfOk result (λ found. option_map (λ v. v.items) found ≡ all_ranges (map (λ text. text.now) texts.now)) }
+{
+    let mut ranges = Vec::new(alloc);
+    for text in texts {
+        let Some(range) = range_of(alloc, text)? else {
+            return Ok(None);
+        };
+        ranges.push(range)?;
+    }
+    Ok(Some(ranges))
+}
+
+// Whether the ranges have at most 512 pages together.
+fn are_few(ranges: &[PageRange]) -> bool
+    ensures { result ≡ nat_le (sum_by page_count ranges.now) 512 }
+{
+    let mut left = MOST_PAGES;
+    for range in ranges {
+        let count = range.count();
+        if count > left {
+            return false;
+        }
+        left -= count;
+    }
+    true
+}
+
+// Puts the pages of a range behind others.
+fn push_range(pages: &mut Vec<u32>, range: &PageRange) -> Result<(), Memory>
+    ensures { OnOk result (pages.new.items ≡ pages.old.items ++ range_pages range.now) }
+{
+    for page in u64::from(range.first)..u64::from(range.last) + 1 {
+        pages.push(page as u32)?;
+    }
+    Ok(())
+}
+
+// The pages of all ranges, one after the other.
+fn spread(alloc: Global, ranges: &[PageRange]) -> Result<Vec<u32>, Memory>
+    ensures { IfOk result (λ pages. pages.items ≡ flat_map range_pages ranges.now) }
+{
+    let mut pages = Vec::new(alloc);
+    for range in ranges {
+        push_range(&mut pages, range)?;
+    }
+    Ok(pages)
+}
+
+// `-`, or ranges with commas between. A range is counted before it is spread.
+pub(crate) fn page_list_of(alloc: Global, text: &[u8]) -> Result<Option<Listed<u32>>, Memory>
+    ensures { IfOk result (λ found. found ≡ page_list_of text.now) }
+{
+    if text == b"-".as_slice() {
+        return Ok(Some(Listed::new(alloc)));
+    }
+    let Some(ranges) = all_ranges(alloc, parts_of(alloc, b',', text)?.as_slice())? else {
+        return Ok(None);
+    };
+    if !are_few(&ranges) {
+        return Ok(None);
+    }
+    Ok(Some(Listed::from_vec(spread(alloc, &ranges)?)))
+}
