@@ -1,5 +1,5 @@
 -- A walk over the items of the protection entries.
-use Rattle.std.proofs.Common.{◌≡◌, ℕ, ◌+◌, List, [], ◌∷◌, ◌++◌, Ok, Err, refl, sym, ap, ◌∙◌, append_assoc}
+use Rattle.std.proofs.Common.{◌≡◌, ℕ, List, [], ◌∷◌, ◌++◌, Ok, Err, refl, ap, append_assoc}
 use Rattle.rv_pmp.specs.declared.rule.Rule.{Rule}
 use Rattle.world_setup.specs.Checked.{Checked}
 use Rattle.world_setup.specs.Protection.{entry_then}

@@ -32,7 +32,7 @@ within_passes low high (Some n) = guarded_passes (is_within low high) (is_within
 at_least_1 : (text : List ℕ) (n : ℕ) → budget_of text ≡ Some n → nat_le 1 n ≡ true
 at_least_1 text n is = (both_parts (nat_le 1 n) (nat_le n 0xffff_ffff) (within_passes 1 0xffff_ffff (dec_value text) n is)).0
 
-perms_pass : (text : List ℕ) → Passes (λ (p : Perms). are_perms p.0) (perms_of_text text)
+pub perms_pass : (text : List ℕ) → Passes (λ (p : Perms). are_perms p.0) (perms_of_text text)
 perms_pass text =
     let test = λ (p : Perms). are_perms p.0 in
     if_passes test (bytes_eq text (codes "r")) _ _ (some_passes test (record { 0 = 1 }) refl)

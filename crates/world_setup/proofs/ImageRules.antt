@@ -1,14 +1,13 @@
 -- What the rules of the images leave.
-use Rattle.std.proofs.Common.{◌≡◌, ℕ, ◌+◌, ◌*◌, ◌≤◌, ◌&&◌, nat_le, Bool, true, false, not, List, [], ◌∷◌, ◌++◌, map, length, Bor, position, codes, Option, Some, None, Ok, Err, refl, sym, ap, ◌∙◌, arith, length-append}
+use Rattle.std.proofs.Common.{◌≡◌, ◌*◌, ◌≤◌, nat_le, true, not, List, [], ◌∷◌, map, length, Bor, position, codes, Option, Some, None, Ok, ap, arith, length-append}
 use Rattle.std.proofs.lemmas.Bool.{and_parts}
 use Rattle.std.proofs.lemmas.List.{length-map}
 use Rattle.toml.specs.View.{view}
 use Rattle.toml.specs.declared.value.Value.{Value}
 use Rattle.std.proofs.lemmas.Bool.Decides.{nat_tests}
-use Rattle.std.specs.List.{list_all, flat_map, position_or_len}
+use Rattle.std.specs.List.{list_all, flat_map}
 use Rattle.toml.specs.Data.{Data, string, integer, float, boolean, datetime, array, table, Members, get_member}
 use Rattle.pl_history.specs.Rules.{is_within}
-use Rattle.world_setup.specs.Checked.{Checked, ◌>>=◌, unless, none_at}
 use Rattle.world_setup.specs.Walk.{list_of, items_at, is_table}
 use Rattle.world_setup.specs.Keys.{images_in, pages_at, pages_in}
 use Rattle.world_setup.specs.Images.{is_image_array, has_entry, is_page_array, has_pages, images_hold}

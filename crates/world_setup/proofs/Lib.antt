@@ -16,3 +16,11 @@ pub mod FormLemmas
 pub mod EntryLemmas
 pub mod OrderLemmas
 pub mod EntryWalk
+pub mod FirstRules
+pub mod Choices
+pub mod NumberValidity
+pub mod ProtectionValidity
+pub mod ImageValidity
+pub mod ScriptValidity
+pub mod LineCounts
+pub mod Validity

@@ -1,5 +1,5 @@
 -- The first item that fails.
-use Rattle.std.proofs.Common.{◌≡◌, ℕ, ◌+◌, ◌<◌, ◌≤◌, Bool, true, false, cond, not, is_some, List, [], ◌∷◌, map, length, position, Option, Some, None, refl, sym, ap, ◌∙◌, arith}
+use Rattle.std.proofs.Common.{◌≡◌, ℕ, ◌+◌, ◌<◌, Bool, true, false, List, [], ◌∷◌, map, length, position, Some, refl, arith}
 use Rattle.std.specs.List.{position_or_len, position_from}
 use Rattle.std.proofs.lemmas.List.{length-map}
 

@@ -1,8 +1,8 @@
 -- The items and the keys of a table of `toml`, beside its data.
 use Rattle.std.specs.List.{list_any, list_all}
-use Rattle.std.proofs.Common.{◌≡◌, ℕ, Bool, ◌||◌, ◌&&◌, suc, length, List, [], ◌∷◌, map, Option, Some, None, option_map, String, Vec, BTreeMap, Global, string_bytes, Bor, refl, sym, ap, ◌∙◌}
-use Rattle.toml.specs.Data.{Data, array}
-use Rattle.toml.specs.View.{view, items_view, members_view, table_view}
+use Rattle.std.proofs.Common.{◌≡◌, ℕ, Bool, ◌||◌, ◌&&◌, suc, length, List, [], ◌∷◌, map, Option, Some, option_map, String, Vec, Global, string_bytes, Bor, refl, ap}
+use Rattle.toml.specs.Data.{Data}
+use Rattle.toml.specs.View.{view, items_view, members_view}
 use Rattle.toml.proofs.Views.{view-Array}
 use Rattle.toml.specs.declared.value.Value.{Value, Array}
 use Rattle.world_setup.specs.Walk.{list_of, keys_of, items_at}

@@ -6,6 +6,7 @@ pub mod Numbers
 pub mod Images
 pub mod Scripts
 pub mod Protection
+pub mod SetupOf
 pub mod Words
 pub mod Arguments
 pub mod PageLists

@@ -85,10 +85,21 @@ pub(crate) fn none_at(found: Option<usize>, rule: u8) -> Result<(), SetupFault>
 // A position that was found, with so many before.
 pub(crate) fn after(before: usize, found: Option<usize>) -> Option<usize>
     requires { IfSome found (λ at. before + at < 2 ^ 32) }
-    ensures { result ≡ option_map (λ at. before + at) found }
+    ensures value { result ≡ option_map (λ at. before + at) found }
+    ensures small { IfSome result (λ at. at < 2 ^ 32) }
 {
     match found {
         Some(at) => Some(before + at),
+        None => None,
+    }
+}
+
+pub(crate) fn wide(found: Option<u32>) -> Option<usize>
+    ensures value { result ≡ found }
+    ensures small { IfSome result (λ at. at < 2 ^ 32) }
+{
+    match found {
+        Some(at) => Some(at as usize),
         None => None,
     }
 }

@@ -72,7 +72,8 @@ fn has_top_keys(table: &Table) -> bool
     has_only(
         table,
         &[
-            "version", "harts", "zones", "slots", "tables", "enclaves", "choice", "pmp", "order", "attacker", "image", "hart",
+            "version", "harts", "zones", "slots", "tables", "enclaves", "choice", "pmp", "order",
+            "attacker", "image", "hart",
         ],
     )
 }

@@ -5,6 +5,8 @@ mod arguments;
 mod entries;
 mod fault;
 mod faults;
+#[cfg(test)]
+mod form_tests;
 mod forms;
 mod images;
 mod keys;
@@ -12,8 +14,12 @@ mod numbers;
 mod order;
 mod page_lists;
 mod protection;
+mod reading;
 mod scripts;
+#[cfg(test)]
+mod tests;
 mod walk;
 mod words;
 
 pub use fault::SetupFault;
+pub use reading::{MOST_TEXT, read_setup};

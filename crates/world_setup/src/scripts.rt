@@ -195,7 +195,10 @@ fn lines_hold(alloc: Global, scripts: &[&str], attacks: &[&str]) -> Result<(), S
 {
     unless(scripts.len() + attacks.len() <= MOST_LINES, 21)?;
     none_at(first_without_form(alloc, scripts)?, 22)?;
-    none_at(after(scripts.len(), first_without_attack_form(alloc, attacks)?), 22)
+    none_at(
+        after(scripts.len(), first_without_attack_form(alloc, attacks)?),
+        22,
+    )
 }
 
 // The same, of a table.

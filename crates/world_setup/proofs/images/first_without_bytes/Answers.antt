@@ -1,4 +1,4 @@
-use Rattle.std.proofs.Common.{not, position, sym, ap, ◌∙◌}
+use Rattle.std.proofs.Common.{not, sym, ◌∙◌}
 use Rattle.toml.specs.View.{view}
 use Rattle.world_setup.specs.Images.{has_bytes}
 use Rattle.world_setup.proofs.Positions.{position-map}

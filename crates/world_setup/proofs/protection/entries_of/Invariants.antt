@@ -1,4 +1,4 @@
-use Rattle.std.proofs.Common.{◌≡◌, ◌+◌, ◌<◌, ◌≤◌, length, map, drop}
+use Rattle.std.proofs.Common.{◌≡◌, ◌<◌, ◌≤◌, length, map, drop}
 use Rattle.toml.specs.View.{view}
 use Rattle.world_setup.specs.Protection.{entries_from}
 use Rattle.world_setup.proofs.EntryWalk.{entries_then}

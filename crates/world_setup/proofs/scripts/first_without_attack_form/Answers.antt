@@ -1,5 +1,4 @@
 use Rattle.std.proofs.Common.{◌≡◌, Option, ℕ, sym, subst}
-use Rattle.std.specs.List.{position_from}
 use Rattle.std.specs.Result.{IfOk}
 use Rattle.world_setup.specs.Scripts.{has_no_attack_form}
 use Rattle.world_setup.proofs.Positions.{position_from-map}
