@@ -1,5 +1,5 @@
 // The record of one enclave number.
-ghost use Rattle.std.specs.Prelude.{◌≡◌, ◌≤◌, ◌<◌, ◌+◌, ◌^◌, [], ◌∷◌, ◌++◌, length, map, IfOk, OnOk, OnErr, OnSome, IfNone};
+ghost use Rattle.std.specs.Prelude.{◌≡◌, ◌≤◌, ◌+◌, [], ◌∷◌, ◌++◌, length, map, IfOk, OnOk, OnErr, OnSome, IfNone};
 ghost use Rattle.std.specs.Bool.{OnTrue, OnFalse};
 ghost use Rattle.std.specs.Result.{result_err};
 ghost use Rattle.pl_base.specs.States.{is_wordless, state_left};
@@ -22,7 +22,7 @@ const FIRST_ADDRESS: u64 = 0x10000;
 
 const PAGE_SIZE: u64 = 4096;
 
-/// A page of an enclave, by its number: its own, or one that it shares with the number that it was forked from.
+/// A page of an enclave, by its number: its own, or one of the number that it was forked from.
 #[derive(Clone, Copy, PartialEq, Eq, Debug)]
 pub enum PageKind {
     Own(u32),

@@ -4,4 +4,7 @@ pub mod OwnerLemmas
 pub mod Accesses
 pub mod StepLemmas
 pub mod RunLemmas
+pub mod ImageLemmas
+pub mod CreateLemmas
+pub mod WorldLemmas
 pub mod UnbuiltLemmas

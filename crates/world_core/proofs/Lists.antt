@@ -1,5 +1,6 @@
 -- Lists with one element changed, by place.
-use Rattle.std.proofs.Common.{◌≡◌, ◌≢◌, ℕ, zero, suc, ◌<◌, Bool, true, false, ◌||◌, List, [], ◌∷◌, length, Some, slice_get, set, refl, ap, arith}
+use Rattle.std.proofs.lemmas.Option.{slice_get-get_or}
+use Rattle.std.proofs.Common.{◌≡◌, ◌≢◌, ℕ, zero, suc, ◌<◌, Bool, true, false, ◌||◌, List, [], ◌∷◌, length, Some, slice_get, get_or, set, refl, ap, sym, ◌∙◌, arith}
 
 pub get-set_same : {A : Type 0} (xs : List A) (i : ℕ) (v : A) → i < length xs → slice_get (set xs i v) i ≡ Some v
 get-set_same [] i v below = absurd (omega arith)
@@ -20,3 +21,8 @@ or_true false = refl
 pub or_false : (t : Bool) → t || false ≡ t
 or_false true = refl
 or_false false = refl
+
+-- the element that an index read
+pub indexed : {A : Type 0} (xs ys : List A) (i j : ℕ) (x : A) → ys ≡ xs → j ≡ i → i < length xs → x ≡ get_or ys j x → slice_get xs i ≡ Some x
+indexed xs ys i j x same at below is =
+    slice_get-get_or xs i x below ∙ ap (λ zs. Some (get_or zs i x)) (sym same) ∙ ap (λ k. Some (get_or ys k x)) (sym at) ∙ ap Some (sym is)

@@ -6,6 +6,7 @@ mod memory;
 mod owners;
 mod run;
 mod step;
+mod world;
 mod unbuilt;
 
 pub use unbuilt::first_unbuilt;
