@@ -37,7 +37,7 @@ impl Call<'_> {
     }
 }
 
-fn call<'a>(words: &'a [&'a str], input: &'a [u8]) -> Call<'a> {
+fn plain_call<'a>(words: &'a [&'a str], input: &'a [u8]) -> Call<'a> {
     Call {
         words,
         input,
