@@ -176,7 +176,8 @@ fn measure<S: Source, K: Sink>(alloc: Global, source: &mut S, sink: &mut K) -> S
         Ok(setup) => setup,
         Err(cause) => return decline(sink, cause),
     };
-    match put_measurements(sink, setup.parts().images.as_slice()) {
+    let images = setup.parts().images.as_slice();
+    match put_measurements(sink, images) {
         Ok(()) => Status::Done,
         Err(Failed) => Status::WriteFault,
     }
