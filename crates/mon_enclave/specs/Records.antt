@@ -1,5 +1,5 @@
 -- The record of an enclave number, and what each call makes of it.
-use Rattle.std.specs.Prelude.{ℕ, ◌≤◌, ◌==◌, nat_lt, Bool, List, [], ◌∷◌, length, map, replicate, slice_get, slice_set, slice_index, unwrap_or, Option, None}
+use Rattle.std.specs.Prelude.{ℕ, ◌≤◌, ◌==◌, nat_lt, Bool, List, [], ◌∷◌, length, map, replicate, slice_get, slice_set, unwrap_or, Option, None}
 use Rattle.pl_base.specs.declared.refusal.No.{No}
 use Rattle.pl_base.specs.declared.refusal.No.TheVariants.{NoEnclave, Full, Empty}
 use Rattle.pl_base.specs.declared.state.State.TheVariants.{Free, Building}
@@ -65,9 +65,9 @@ send_refusal enclave = first_refusal (refuse (is_wordless enclave.state) NoEncla
 abbrev pub take_refusal : Enclave → Option No
 take_refusal enclave = first_refusal (refuse (is_wordless enclave.state) NoEnclave ∷ refuse (enclave.taken == enclave.shown) Empty ∷ [])
 
--- the first word that wasn't taken
-abbrev pub taken_word : Enclave → ℕ
-taken_word enclave = slice_index enclave.out enclave.taken
+-- the first word sent out that wasn't taken, where there is one
+abbrev pub taken_word : Enclave → Option ℕ
+taken_word enclave = slice_get enclave.out enclave.taken
 
 -- the first sent word that wasn't received, where there is one
 abbrev pub received_word : Enclave → Option ℕ

@@ -165,7 +165,7 @@ impl Enclave {
     pub(crate) fn take(&mut self) -> Result<u64, No>
         requires { IsEnclave self.old }
         ensures refusal { result_err result ≡ take_refusal self.old }
-        ensures word { IfOk result (λ word. word ≡ taken_word self.old) }
+        ensures word { IfOk result (λ word. Some word ≡ taken_word self.old) }
         ensures ok { OnOk result (self.new ≡ record self.old { taken = self.old.taken + 1 }) }
         ensures err { OnErr result (self.new ≡ self.old) }
         ensures kept { IsEnclave self.new }

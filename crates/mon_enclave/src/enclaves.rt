@@ -81,7 +81,7 @@ impl Enclaves {
     pub fn take(&mut self, e: EncNo) -> Result<u64, No>
         requires { e.0 < length self.old }
         ensures refusal { result_err result ≡ take_refusal (enclave_at self.old e.0) }
-        ensures word { IfOk result (λ word. word ≡ taken_word (enclave_at self.old e.0)) }
+        ensures word { IfOk result (λ word. Some word ≡ taken_word (enclave_at self.old e.0)) }
         ensures ok { OnOk result (self.new ≡ with_enclave self.old e.0 (record (enclave_at self.old e.0) { taken = (enclave_at self.old e.0).taken + 1 })) }
         ensures err { OnErr result (self.new ≡ self.old) }
     {

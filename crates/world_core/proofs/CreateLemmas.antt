@@ -28,7 +28,7 @@ refuse_none : (test : Bool) (cause : No) → refuse test cause ≡ None → test
 refuse_none true cause e = cc
 refuse_none false cause e = refl
 
-not_false : (b : Bool) → not b ≡ false → b ≡ true
+pub not_false : (b : Bool) → not b ≡ false → b ≡ true
 not_false true e = refl
 not_false false e = cc
 
@@ -52,7 +52,7 @@ free_state state_is.Faulted e = cc
 free_state state_is.Dying e = cc
 free_state state_is.Sealed e = cc
 
-find_none : {A : Type 0} (test : A → Bool) (xs : List A) (i : ℕ) (x : A) → find test xs ≡ None → slice_get xs i ≡ Some x → test x ≡ false
+pub find_none : {A : Type 0} (test : A → Bool) (xs : List A) (i : ℕ) (x : A) → find test xs ≡ None → slice_get xs i ≡ Some x → test x ≡ false
 find_none test [] i x none here = cc
 find_none test (y ∷ ys) zero x none here = elim (cases_Bool (test y)) [
   | inl passes ↦ (let h : Some y ≡ None = rw passes at none in cc)

@@ -8,3 +8,7 @@ pub mod ImageLemmas
 pub mod CreateLemmas
 pub mod WorldLemmas
 pub mod UnbuiltLemmas
+pub mod Histories
+pub mod LineLemmas
+pub mod MakingLemmas
+pub mod ScriptLemmas

@@ -9,10 +9,13 @@ use Rattle.mon_enclave.specs.declared.enclave.Enclave.{Enclave}
 use Rattle.mon_enclave.specs.Records.{enclave_at, with_enclave, free_enclave, built}
 use Rattle.rv_alone.specs.Flat.{Flat, on}
 use Rattle.rv_alone.specs.Alone.{alone}
+use Rattle.pl_base.specs.declared.number.EncNo.{EncNo}
+use Rattle.pl_history.specs.declared.line.Line.{Line}
+use Rattle.pl_history.specs.declared.line.Line.TheVariants.{Run, Resume}
 use Rattle.pl_history.specs.declared.answer.Answer.{Answer}
 use Rattle.pl_history.specs.declared.answer.Entry.{Entry}
 use Rattle.pl_history.specs.declared.setup.SetupParts.{SetupParts}
-use Rattle.pl_history.specs.Rules.{guarded_of, pages_of}
+use Rattle.pl_history.specs.Rules.{guarded_of, pages_of, names_known}
 use Rattle.pl_history.specs.Monitor.{Number, Monitor, Progress, number, flat_image, flat_page}
 use Rattle.pl_history.specs.Making.{is_in}
 use Rattle.pl_history.specs.Running.{MayLeaveNumber}
@@ -115,3 +118,12 @@ pub record Follows (setup : SetupParts) (w : World) (entries : List Entry) (answ
 -- an entry of hart 0
 abbrev pub entry_of : ℕ → Answer → Entry
 entry_of at answer = record { actor = 0; line = at; answer = answer }
+
+-- a run, or a run on
+abbrev pub run_line : Bool → EncNo → ℕ → Line
+run_line true e budget = Run e budget
+run_line false e budget = Resume e budget
+
+-- the number that a line names is there, and the image
+abbrev pub Names : SetupParts → Line → Type 0
+Names setup line = names_known setup.enclaves (length setup.images) line ≡ true

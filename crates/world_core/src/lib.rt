@@ -2,11 +2,14 @@
 #![tactic(auto)]
 
 mod access;
+mod lines;
 mod memory;
 mod owners;
 mod run;
+mod script;
 mod step;
-mod world;
 mod unbuilt;
+mod world;
 
+pub use script::run_setup;
 pub use unbuilt::first_unbuilt;
