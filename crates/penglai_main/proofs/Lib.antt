@@ -1,10 +1,1 @@
-pub mod Parts
-pub mod RunLemmas
-pub mod Histories
-pub mod Lines
-pub mod ScriptLemmas
-pub mod Views
-pub mod ViewRules
-pub mod Members
-pub mod FirstRules
-pub mod FirstForm
+pub mod MeasureLemmas

@@ -1,14 +1,2 @@
-pub mod Setup
-pub mod History
-pub mod Enclave
-pub mod Monitor
-pub mod Refusals
-pub mod Making
-pub mod Running
-pub mod Legal
-pub mod Follows
-pub mod Text
-pub mod Walk
-pub mod Form
-pub mod Answers
+pub mod Measure
 pub mod Top

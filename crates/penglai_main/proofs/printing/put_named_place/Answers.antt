@@ -1,5 +1,0 @@
-use Rattle.pl_io.proofs.PutsLemmas.{puts_then}
-use Rattle.penglai_main.proofs.printing.put_named_place.Goals as goal
-
-pub returns : goal.returns
-returns g c = puts_then _ _ _ _ _ _ _ _ tt _ c.in_ok-put_text.ensures c.put_place.ensures
