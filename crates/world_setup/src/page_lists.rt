@@ -1,5 +1,5 @@
 // A list of pages: numbers and ranges, with commas between.
-ghost use Rattle.std.specs.Prelude.{◌≡◌, ◌++◌, nat_le, map, sum_by, option_map, IfOk, OnOk};
+ghost use Rattle.std.specs.Prelude.{◌≡◌, ◌++◌, nat_le, map, sum_by, option_map, Some, None, if◌then◌else◌, IfOk, OnOk};
 ghost use Rattle.std.specs.List.{flat_map};
 ghost use Rattle.world_setup.specs.PageLists.{range_from, range_of, all_ranges, page_count, range_pages, pages_of_ranges, page_list_of};
 
@@ -61,19 +61,18 @@ fn all_ranges(alloc: Global, texts: &[&[u8]]) -> Result<Option<Vec<PageRange>>, 
     Ok(Some(ranges))
 }
 
-// Whether the ranges have at most 512 pages together.
-fn are_few(ranges: &[PageRange]) -> bool
-    ensures { result ≡ nat_le (sum_by page_count ranges.now) 512 }
+// How many pages the ranges have together, where these are at most 512.
+fn few_pages(ranges: &[PageRange]) -> Option<u64>
+    ensures { result ≡ (if nat_le (sum_by page_count ranges.now) 512 then Some (sum_by page_count ranges.now) else None) }
 {
-    let mut left = MOST_PAGES;
+    let mut count = 0;
     for range in ranges {
-        let count = range.count();
-        if count > left {
-            return false;
+        if range.count() > MOST_PAGES - count {
+            return None;
         }
-        left -= count;
+        count += range.count();
     }
-    true
+    Some(count)
 }
 
 // Puts the pages of a range behind others.
@@ -86,11 +85,11 @@ fn push_range(pages: &mut Vec<u32>, range: &PageRange) -> Result<(), Memory>
     Ok(())
 }
 
-// The pages of all ranges, one after the other.
-fn spread(alloc: Global, ranges: &[PageRange]) -> Result<Vec<u32>, Memory>
+// The pages of all ranges, one after the other. There are `count` of them.
+fn spread(alloc: Global, ranges: &[PageRange], count: usize) -> Result<Vec<u32>, Memory>
     ensures { IfOk result (λ pages. pages.items ≡ flat_map range_pages ranges.now) }
 {
-    let mut pages = Vec::new(alloc);
+    let mut pages = Vec::with_capacity(alloc, count)?;
     for range in ranges {
         push_range(&mut pages, range)?;
     }
@@ -107,8 +106,9 @@ pub(crate) fn page_list_of(alloc: Global, text: &[u8]) -> Result<Option<Listed<u
     let Some(ranges) = all_ranges(alloc, parts_of(alloc, b',', text)?.as_slice())? else {
         return Ok(None);
     };
-    if !are_few(&ranges) {
+    let Some(count) = few_pages(&ranges) else {
         return Ok(None);
-    }
-    Ok(Some(Listed::from_vec(spread(alloc, &ranges)?)))
+    };
+    let pages = spread(alloc, &ranges, count as usize)?;
+    Ok(Some(Listed::from_vec(pages)))
 }
