@@ -79,9 +79,11 @@ fn few_pages(ranges: &[PageRange]) -> Option<u64>
 fn push_range(pages: &mut Vec<u32>, range: &PageRange) -> Result<(), Memory>
     ensures { OnOk result (pages.new.items ≡ pages.old.items ++ range_pages range.now) }
 {
-    for page in u64::from(range.first)..u64::from(range.last) + 1 {
-        pages.push(page as u32)?;
+    if range.first > range.last {
+        return Ok(());
     }
+    pages.extend(range.first..range.last)?;
+    pages.push(range.last)?;
     Ok(())
 }
 
