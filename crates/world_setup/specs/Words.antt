@@ -17,6 +17,10 @@ words_of = parts_of 32
 abbrev pub words_after : Option (List ℕ) → List (List ℕ)
 words_after rest = option_map_or words_of rest []
 
+-- the same of parts
+abbrev pub parts_after : ℕ → Option (List ℕ) → List (List ℕ)
+parts_after byte rest = option_map_or (parts_of byte) rest []
+
 -- two, three or four words as they are, or another number of them
 abbrev pub AreFew : FewWords → List (List ℕ) → Type 0
 AreFew (Two word a) words = words ≡ word.now ∷ a.now ∷ []

@@ -1,10 +1,11 @@
 // A list of pages: numbers and ranges, with commas between.
 ghost use Rattle.std.specs.Prelude.{◌≡◌, ◌++◌, nat_le, map, sum_by, option_map, Some, None, if◌then◌else◌, IfOk, OnOk};
 ghost use Rattle.std.specs.List.{flat_map};
+ghost use Rattle.world_setup.specs.Words.{parts_of};
 ghost use Rattle.world_setup.specs.PageLists.{range_from, range_of, all_ranges, page_count, range_pages, pages_of_ranges, page_list_of};
 
 use crate::arguments::number_of;
-use crate::words::parts_of;
+use crate::words::first_part;
 use pl_base::{Listed, Memory};
 use std::alloc::Global;
 
@@ -36,27 +37,33 @@ fn range_from(first: Option<u32>, last: Option<u32>) -> Option<PageRange>
 }
 
 // `a`, or `a-b`.
-fn range_of(alloc: Global, text: &[u8]) -> Result<Option<PageRange>, Memory>
-    ensures { IfOk result (λ found. found ≡ range_of text.now) }
+fn range_of(text: &[u8]) -> Option<PageRange>
+    ensures { result ≡ range_of text.now }
 {
-    let parts = parts_of(alloc, b'-', text)?;
-    match parts.as_slice() {
-        [page] => Ok(range_from(number_of(page), number_of(page))),
-        [first, last] => Ok(range_from(number_of(first), number_of(last))),
-        _ => Ok(None),
+    let first = first_part(b'-', text);
+    let Some(rest) = first.rest else {
+        return range_from(number_of(first.part), number_of(first.part));
+    };
+    let last = first_part(b'-', rest);
+    match last.rest {
+        None => range_from(number_of(first.part), number_of(last.part)),
+        Some(_) => None,
     }
 }
 
-// A range for each text.
-fn all_ranges(alloc: Global, texts: &[&[u8]]) -> Result<Option<Vec<PageRange>>, Memory>
-    ensures { IfOk result (λ found. option_map (λ v. v.items) found ≡ all_ranges (map (λ text. text.now) texts.now)) }
+// A range for each part of a text.
+fn all_ranges(alloc: Global, text: &[u8]) -> Result<Option<Vec<PageRange>>, Memory>
+    ensures { IfOk result (λ found. option_map (λ v. v.items) found ≡ all_ranges (parts_of 44 text.now)) }
 {
     let mut ranges = Vec::new(alloc);
-    for text in texts {
-        let Some(range) = range_of(alloc, text)? else {
+    let mut rest = Some(text);
+    while let Some(left) = rest {
+        let first = first_part(b',', left);
+        let Some(range) = range_of(first.part) else {
             return Ok(None);
         };
         ranges.push(range)?;
+        rest = first.rest;
     }
     Ok(Some(ranges))
 }
@@ -105,7 +112,7 @@ pub(crate) fn page_list_of(alloc: Global, text: &[u8]) -> Result<Option<Listed<u
     if text == b"-".as_slice() {
         return Ok(Some(Listed::new(alloc)));
     }
-    let Some(ranges) = all_ranges(alloc, parts_of(alloc, b',', text)?.as_slice())? else {
+    let Some(ranges) = all_ranges(alloc, text)? else {
         return Ok(None);
     };
     let Some(count) = few_pages(&ranges) else {

@@ -1,44 +1,41 @@
 // A text, cut at each of a byte.
-ghost use Rattle.std.specs.Prelude.{◌≡◌, ◌==◌, ◌∷◌, map, position, IfOk};
+ghost use Rattle.std.specs.Prelude.{◌≡◌, ◌<◌, ◌==◌, ◌∷◌, length, position, IfSome};
 ghost use Rattle.std.specs.Option.{option_copied};
-ghost use Rattle.world_setup.specs.Words.{parts_of, words_of, words_after, AreFew};
+ghost use Rattle.world_setup.specs.Words.{parts_of, words_of, words_after, parts_after, AreFew};
 
-use pl_base::Memory;
-use std::alloc::Global;
-
-// What stands between the places of a byte, empty parts too.
-pub(crate) fn parts_of<'a>(alloc: Global, byte: u8, text: &'a [u8]) -> Result<Vec<&'a [u8]>, Memory>
-    ensures { IfOk result (λ parts. map (λ part. part.now) parts.items ≡ parts_of byte text.now) }
+fn first_place(byte: u8, text: &[u8]) -> Option<usize>
+    ensures { result ≡ position (λ b. b == byte) text.now }
 {
-    Ok(text.split(|b| *b == byte).collect(alloc)?)
+    text.iter().position(|b| *b == byte)
 }
 
-fn first_space(text: &[u8]) -> Option<usize>
-    ensures { result ≡ position (λ b. b == 32) text.now }
-{
-    text.iter().position(|b| *b == b' ')
-}
-
-// The first word of a text, and what stands behind its space.
+// The first part of a text, and what stands behind the byte that ends it.
 #[derive(Clone, Copy)]
-pub(crate) struct FirstWord<'a> {
-    pub(crate) word: &'a [u8],
+pub(crate) struct FirstPart<'a> {
+    pub(crate) part: &'a [u8],
     pub(crate) rest: Option<&'a [u8]>,
 }
 
-pub(crate) fn first_word(text: &[u8]) -> FirstWord<'_>
-    ensures { words_of text.now ≡ result.word.now ∷ words_after (option_copied result.rest) }
+pub(crate) fn first_part(byte: u8, text: &[u8]) -> FirstPart<'_>
+    ensures parts { parts_of byte text.now ≡ result.part.now ∷ parts_after byte (option_copied result.rest) }
+    ensures shorter { IfSome result.rest (λ rest. length rest.now < length text.now) }
 {
-    match first_space(text) {
-        Some(at) => FirstWord {
-            word: &text[..at],
+    match first_place(byte, text) {
+        Some(at) => FirstPart {
+            part: &text[..at],
             rest: Some(&text[at + 1..]),
         },
-        None => FirstWord {
-            word: text,
+        None => FirstPart {
+            part: text,
             rest: None,
         },
     }
+}
+
+pub(crate) fn first_word(text: &[u8]) -> FirstPart<'_>
+    ensures { words_of text.now ≡ result.part.now ∷ words_after (option_copied result.rest) }
+{
+    first_part(b' ', text)
 }
 
 // The words of a text that has two, three or four of them.
@@ -57,7 +54,7 @@ fn after_three<'a>(word: &'a [u8], a: &'a [u8], b: &'a [u8], text: &'a [u8]) -> 
     let next = first_word(text);
     match next.rest {
         Some(_) => FewWords::Other,
-        None => FewWords::Four(word, a, b, next.word),
+        None => FewWords::Four(word, a, b, next.part),
     }
 }
 
@@ -66,8 +63,8 @@ fn after_two<'a>(word: &'a [u8], a: &'a [u8], text: &'a [u8]) -> FewWords<'a>
 {
     let next = first_word(text);
     match next.rest {
-        Some(rest) => after_three(word, a, next.word, rest),
-        None => FewWords::Three(word, a, next.word),
+        Some(rest) => after_three(word, a, next.part, rest),
+        None => FewWords::Three(word, a, next.part),
     }
 }
 
@@ -76,8 +73,8 @@ fn after_one<'a>(word: &'a [u8], text: &'a [u8]) -> FewWords<'a>
 {
     let next = first_word(text);
     match next.rest {
-        Some(rest) => after_two(word, next.word, rest),
-        None => FewWords::Two(word, next.word),
+        Some(rest) => after_two(word, next.part, rest),
+        None => FewWords::Two(word, next.part),
     }
 }
 
@@ -87,7 +84,7 @@ pub(crate) fn few_words(text: &[u8]) -> FewWords<'_>
 {
     let first = first_word(text);
     match first.rest {
-        Some(rest) => after_one(first.word, rest),
+        Some(rest) => after_one(first.part, rest),
         None => FewWords::Other,
     }
 }
