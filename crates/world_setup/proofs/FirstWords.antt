@@ -1,11 +1,12 @@
 -- The first word of a text.
-use Rattle.std.proofs.Common.{◌≡◌, ℕ, ◌+◌, ◌-◌, ◌<◌, ◌≤◌, nat_lt, Bool, true, false, cond, List, [], ◌∷◌, length, take, drop, Some, None, refl, subst, arith, length-drop}
-use Rattle.std.specs.List.{slice_split, position, position_or_len}
+use Rattle.std.proofs.Common.{◌≡◌, ℕ, suc, ◌+◌, ◌-◌, ◌<◌, ◌≤◌, ◌==◌, ◌&&◌, nat_le, nat_lt, Bool, true, false, cond, List, [], ◌∷◌, length, take, drop, Option, Some, None, refl, subst, ap, ◌∙◌, arith, length-drop}
+use Rattle.std.specs.List.{slice_split, position, position_or_len, count_by}
 use Rattle.std.proofs.lemmas.Bool.Decides.{nat_tests}
 use Rattle.std.proofs.lemmas.List.{take_all}
-use Rattle.std.proofs.lemmas.List.Splits.{slice_split_first, slice_split_none}
+use Rattle.std.proofs.lemmas.List.Splits.{slice_split_first, slice_split_none, length-slice_split}
 use Rattle.std.proofs.lemmas.List.Sums.{fails_before_first}
 use Rattle.std.proofs.lemmas.Option.{same_Some}
+use Rattle.world_setup.specs.Words.{words_of, words_after}
 
 below_of : (a b : ℕ) → nat_lt a b ≡ true → a < b
 below_of a b test = grind (arith, nat_tests)
@@ -37,3 +38,12 @@ cut_at p text at is =
 -- a text with none is one part
 pub cut_nowhere : (p : ℕ → Bool) (text : List ℕ) → position p text ≡ None → slice_split p text ≡ text ∷ []
 cut_nowhere p text is = whole_by p text (nat_lt (position_or_len p text) (length text)) refl is
+
+five_or_more : (words : List (List ℕ)) (spaces more : ℕ) → length words ≡ suc more → more ≡ spaces + 1 → nat_le 2 (suc (suc (suc (length words)))) && nat_le (suc (suc (suc (length words)))) 4 ≡ false
+five_or_more words spaces more is some = rw (is, some) (grind (arith, nat_tests))
+
+-- two words or more behind three are five or more
+pub five_words : (text first rest : List ℕ) (o : Option (List ℕ)) → o ≡ Some rest → words_of text ≡ first ∷ words_after o
+    → nat_le 2 (suc (suc (suc (length (words_of text))))) && nat_le (suc (suc (suc (length (words_of text))))) 4 ≡ false
+five_words text first rest o is words =
+    five_or_more (words_of text) (count_by (λ b. b == 32) rest) (length (words_of rest)) (ap length words ∙ ap (λ r. suc (length (words_after r))) is) (length-slice_split (λ b. b == 32) rest)

@@ -1,13 +1,11 @@
 // A protection entry: its number, its configuration and its address register.
-ghost use Rattle.std.specs.Prelude.{◌≡◌, IfOk};
+ghost use Rattle.std.specs.Prelude.{◌≡◌};
 ghost use Rattle.world_setup.specs.Entries.{cfg_of, entry_of_three, entry_of};
 
 use crate::arguments::within;
-use crate::words::words_of;
-use pl_base::Memory;
+use crate::words::{FewWords, few_words};
 use pl_io::{read_dec, read_hex};
 use rv_pmp::Rule;
-use std::alloc::Global;
 
 // Two hexadecimal digits.
 fn cfg_of(text: &[u8]) -> Option<u32>
@@ -38,12 +36,12 @@ fn entry_of_three(number: &[u8], cfg: &[u8], addr: &[u8]) -> Option<(u8, Rule)>
 
 /// The protection entry that a text is, with its number.
 #[tactic(auto, unfolding(crate::specs::Entries::entry_of))]
-pub(crate) fn entry_of(alloc: Global, text: &[u8]) -> Result<Option<(u8, Rule)>, Memory>
-    ensures { IfOk result (λ found. found ≡ entry_of text.now) }
+pub(crate) fn entry_of(text: &[u8]) -> Option<(u8, Rule)>
+    ensures { result ≡ entry_of text.now }
 {
-    let words = words_of(alloc, text)?;
-    match words.as_slice() {
-        [number, cfg, addr] => Ok(entry_of_three(number, cfg, addr)),
-        _ => Ok(None),
+    let words = few_words(text);
+    match words {
+        FewWords::Three(number, cfg, addr) => entry_of_three(number, cfg, addr),
+        _ => None,
     }
 }

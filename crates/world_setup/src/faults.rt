@@ -150,27 +150,30 @@ fn kept_length(kept: &Lengths<'_>, name: &[u8]) -> Option<u32>
     kept.get(name).copied()
 }
 
-// The bytes of a line that writes or keeps some; of one that writes back those that were kept.
-fn attack_length(kept: &Lengths<'_>, line: &AttackLine) -> u64
-    ensures { (earlier : List AttackLine) → KeepsLengths kept.now earlier → result ≡ attack_length earlier line.now }
+// The bytes of a line that writes or keeps some; of one that writes back those that were kept. `None` where the place isn't
+// off chip, the name wasn't kept, or the actor isn't there.
+fn known_length(
+    zones: u8,
+    counts: &[usize],
+    me: u8,
+    kept: &Lengths<'_>,
+    line: &AttackLine,
+) -> Option<u64>
+    ensures { (earlier : List AttackLine) → KeepsLengths kept.now earlier → result ≡ (if attack_known zones counts.now me earlier line.now then Some (attack_length earlier line.now) else None) }
 {
     match line {
-        AttackLine::Write { bytes, .. } => bytes.len() as u64,
-        AttackLine::Keep { len, .. } => u64::from(*len),
-        AttackLine::Back { name } => u64::from(kept_length(kept, name.as_slice()).unwrap_or(0)),
-        AttackLine::After { .. } => 0,
-    }
-}
-
-// Whether the place is off chip, the name was kept, or the actor is there.
-fn attack_known(zones: u8, counts: &[usize], me: u8, kept: &Lengths<'_>, line: &AttackLine) -> bool
-    ensures { (earlier : List AttackLine) → KeepsLengths kept.now earlier → result ≡ attack_known zones counts.now me earlier line.now }
-{
-    match line {
-        AttackLine::Write { pa, bytes } => is_place(zones, *pa, bytes.len() as u64),
-        AttackLine::Keep { pa, len, .. } => is_place(zones, *pa, u64::from(*len)),
-        AttackLine::Back { name } => kept_length(kept, name.as_slice()).is_some(),
-        AttackLine::After { actor, count } => after_known(counts, me, *actor, *count),
+        AttackLine::Write { pa, bytes } => {
+            let length = bytes.len() as u64;
+            is_place(zones, *pa, length).then_some(length)
+        }
+        AttackLine::Keep { pa, len, .. } => {
+            let length = u64::from(*len);
+            is_place(zones, *pa, length).then_some(length)
+        }
+        AttackLine::Back { name } => Some(u64::from(kept_length(kept, name.as_slice())?)),
+        AttackLine::After { actor, count } => {
+            after_known(counts, me, *actor, *count).then_some(0)
+        }
     }
 }
 
@@ -195,10 +198,8 @@ fn left_after(
 ) -> Option<u64>
     ensures { (earlier : List AttackLine) → KeepsLengths kept.now earlier → result ≡ (if attack_known zones counts.now me earlier line.now && nat_le (attack_length earlier line.now) left then Some (left - attack_length earlier line.now) else None) }
 {
-    if !attack_known(zones, counts, me, kept, line) {
-        return None;
-    }
-    left.checked_sub(attack_length(kept, line))
+    let length = known_length(zones, counts, me, kept, line)?;
+    left.checked_sub(length)
 }
 
 /// The position of the first of the attacker's lines that has no place in memory, names what wasn't kept, waits for no

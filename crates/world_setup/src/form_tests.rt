@@ -241,7 +241,7 @@ const ENTRIES: [(&str, Option<(u8, Rule)>); 16] = [
 #[test]
 fn entries_have_their_form(rt: HostRuntime) -> Result<(), Fail> {
     for (text, want) in ENTRIES {
-        let entry = entry_of(rt.alloc(), text.as_bytes())?;
+        let entry = entry_of(text.as_bytes());
         assert_eq!(rt; entry, want, "at {text}");
     }
     Ok(())

@@ -7,7 +7,7 @@ use crate::arguments::{
     short_of,
 };
 use crate::page_lists::page_list_of;
-use crate::words::words_of;
+use crate::words::{FewWords, few_words};
 use pl_base::{Listed, Memory};
 use pl_history::{AttackLine, Line};
 use pl_io::read_hex;
@@ -138,12 +138,12 @@ fn line_of_three(
 pub(crate) fn line_of(alloc: Global, text: &[u8]) -> Result<Option<Line>, Memory>
     ensures { IfOk result (λ found. found ≡ line_of text.now) }
 {
-    let words = words_of(alloc, text)?;
-    match words.as_slice() {
-        [word, a] => Ok(line_of_one(word, a)),
-        [word, a, b] => Ok(line_of_two(word, a, b)),
-        [word, a, b, c] => line_of_three(alloc, word, a, b, c),
-        _ => Ok(None),
+    let words = few_words(text);
+    match words {
+        FewWords::Two(word, a) => Ok(line_of_one(word, a)),
+        FewWords::Three(word, a, b) => Ok(line_of_two(word, a, b)),
+        FewWords::Four(word, a, b, c) => line_of_three(alloc, word, a, b, c),
+        FewWords::Other => Ok(None),
     }
 }
 
@@ -220,11 +220,11 @@ fn attack_line_of_three(
 pub(crate) fn attack_line_of(alloc: Global, text: &[u8]) -> Result<Option<AttackLine>, Memory>
     ensures { IfOk result (λ found. found ≡ attack_line_of text.now) }
 {
-    let words = words_of(alloc, text)?;
-    match words.as_slice() {
-        [word, a] => back_line_of(alloc, word, a),
-        [word, a, b] => attack_line_of_two(alloc, word, a, b),
-        [word, a, b, c] => attack_line_of_three(alloc, word, a, b, c),
-        _ => Ok(None),
+    let words = few_words(text);
+    match words {
+        FewWords::Two(word, a) => back_line_of(alloc, word, a),
+        FewWords::Three(word, a, b) => attack_line_of_two(alloc, word, a, b),
+        FewWords::Four(word, a, b, c) => attack_line_of_three(alloc, word, a, b, c),
+        FewWords::Other => Ok(None),
     }
 }

@@ -48,7 +48,7 @@ pub(crate) fn order_of(
         if actors.len() >= MOST_WORDS {
             return Ok(Err(actors.len() as u32));
         }
-        let Some(actor) = actor_of(harts, first.word) else {
+        let Some(actor) = actor_of(harts, first.part) else {
             return Ok(Err(actors.len() as u32));
         };
         actors.push(actor)?;

@@ -1,10 +1,11 @@
 // A list of pages: numbers and ranges, with commas between.
-ghost use Rattle.std.specs.Prelude.{◌≡◌, ◌++◌, nat_le, map, sum_by, option_map, IfOk, OnOk};
+ghost use Rattle.std.specs.Prelude.{◌≡◌, ◌++◌, nat_le, map, sum_by, option_map, Some, None, if◌then◌else◌, IfOk, OnOk};
 ghost use Rattle.std.specs.List.{flat_map};
+ghost use Rattle.world_setup.specs.Words.{parts_of};
 ghost use Rattle.world_setup.specs.PageLists.{range_from, range_of, all_ranges, page_count, range_pages, pages_of_ranges, page_list_of};
 
 use crate::arguments::number_of;
-use crate::words::parts_of;
+use crate::words::first_part;
 use pl_base::{Listed, Memory};
 use std::alloc::Global;
 
@@ -36,61 +37,68 @@ fn range_from(first: Option<u32>, last: Option<u32>) -> Option<PageRange>
 }
 
 // `a`, or `a-b`.
-fn range_of(alloc: Global, text: &[u8]) -> Result<Option<PageRange>, Memory>
-    ensures { IfOk result (λ found. found ≡ range_of text.now) }
+fn range_of(text: &[u8]) -> Option<PageRange>
+    ensures { result ≡ range_of text.now }
 {
-    let parts = parts_of(alloc, b'-', text)?;
-    match parts.as_slice() {
-        [page] => Ok(range_from(number_of(page), number_of(page))),
-        [first, last] => Ok(range_from(number_of(first), number_of(last))),
-        _ => Ok(None),
+    let first = first_part(b'-', text);
+    let Some(rest) = first.rest else {
+        return range_from(number_of(first.part), number_of(first.part));
+    };
+    let last = first_part(b'-', rest);
+    match last.rest {
+        None => range_from(number_of(first.part), number_of(last.part)),
+        Some(_) => None,
     }
 }
 
-// A range for each text.
-fn all_ranges(alloc: Global, texts: &[&[u8]]) -> Result<Option<Vec<PageRange>>, Memory>
-    ensures { IfOk result (λ found. option_map (λ v. v.items) found ≡ all_ranges (map (λ text. text.now) texts.now)) }
+// A range for each part of a text.
+fn all_ranges(alloc: Global, text: &[u8]) -> Result<Option<Vec<PageRange>>, Memory>
+    ensures { IfOk result (λ found. option_map (λ v. v.items) found ≡ all_ranges (parts_of 44 text.now)) }
 {
     let mut ranges = Vec::new(alloc);
-    for text in texts {
-        let Some(range) = range_of(alloc, text)? else {
+    let mut rest = Some(text);
+    while let Some(left) = rest {
+        let first = first_part(b',', left);
+        let Some(range) = range_of(first.part) else {
             return Ok(None);
         };
         ranges.push(range)?;
+        rest = first.rest;
     }
     Ok(Some(ranges))
 }
 
-// Whether the ranges have at most 512 pages together.
-fn are_few(ranges: &[PageRange]) -> bool
-    ensures { result ≡ nat_le (sum_by page_count ranges.now) 512 }
+// How many pages the ranges have together, where these are at most 512.
+fn few_pages(ranges: &[PageRange]) -> Option<u64>
+    ensures { result ≡ (if nat_le (sum_by page_count ranges.now) 512 then Some (sum_by page_count ranges.now) else None) }
 {
-    let mut left = MOST_PAGES;
+    let mut count = 0;
     for range in ranges {
-        let count = range.count();
-        if count > left {
-            return false;
+        if range.count() > MOST_PAGES - count {
+            return None;
         }
-        left -= count;
+        count += range.count();
     }
-    true
+    Some(count)
 }
 
 // Puts the pages of a range behind others.
 fn push_range(pages: &mut Vec<u32>, range: &PageRange) -> Result<(), Memory>
     ensures { OnOk result (pages.new.items ≡ pages.old.items ++ range_pages range.now) }
 {
-    for page in u64::from(range.first)..u64::from(range.last) + 1 {
-        pages.push(page as u32)?;
+    if range.first > range.last {
+        return Ok(());
     }
+    pages.extend(range.first..range.last)?;
+    pages.push(range.last)?;
     Ok(())
 }
 
-// The pages of all ranges, one after the other.
-fn spread(alloc: Global, ranges: &[PageRange]) -> Result<Vec<u32>, Memory>
+// The pages of all ranges, one after the other. There are `count` of them.
+fn spread(alloc: Global, ranges: &[PageRange], count: usize) -> Result<Vec<u32>, Memory>
     ensures { IfOk result (λ pages. pages.items ≡ flat_map range_pages ranges.now) }
 {
-    let mut pages = Vec::new(alloc);
+    let mut pages = Vec::with_capacity(alloc, count)?;
     for range in ranges {
         push_range(&mut pages, range)?;
     }
@@ -104,11 +112,12 @@ pub(crate) fn page_list_of(alloc: Global, text: &[u8]) -> Result<Option<Listed<u
     if text == b"-".as_slice() {
         return Ok(Some(Listed::new(alloc)));
     }
-    let Some(ranges) = all_ranges(alloc, parts_of(alloc, b',', text)?.as_slice())? else {
+    let Some(ranges) = all_ranges(alloc, text)? else {
         return Ok(None);
     };
-    if !are_few(&ranges) {
+    let Some(count) = few_pages(&ranges) else {
         return Ok(None);
-    }
-    Ok(Some(Listed::from_vec(spread(alloc, &ranges)?)))
+    };
+    let pages = spread(alloc, &ranges, count as usize)?;
+    Ok(Some(Listed::from_vec(pages)))
 }

@@ -1,5 +1,5 @@
 // Rules 12 and 13: the protection entries, and the order of the first turns.
-ghost use Rattle.std.specs.Prelude.{◌≡◌, ◌≤◌, map, option_map, IfOk, IfSome};
+ghost use Rattle.std.specs.Prelude.{◌≡◌, ◌≤◌, map, option_map, IfSome};
 ghost use Rattle.toml.specs.View.{view, table_view};
 ghost use Rattle.world_setup.specs.Answers.{Answers};
 ghost use Rattle.world_setup.specs.Protection.{entry_above, entries_from, entries_of, protection_of, order_in, order_at};
@@ -8,23 +8,23 @@ use crate::entries::entry_of;
 use crate::fault::SetupFault;
 use crate::order::order_of;
 use crate::walk::member;
-use pl_base::{Actor, Listed, Memory};
+use pl_base::{Actor, Listed};
 use rv_pmp::Rule;
 use std::alloc::Global;
 use toml::{Table, Value};
 
 // The entry of a string, above the one before.
-fn entry_above(alloc: Global, before: u8, item: &Value) -> Result<Option<(u8, Rule)>, Memory>
+fn entry_above(before: u8, item: &Value) -> Option<(u8, Rule)>
     requires { before ≤ 12 }
-    ensures value { IfOk result (λ found. found ≡ entry_above before (view item.now)) }
-    ensures most { IfOk result (λ found. IfSome found (λ entry. entry.0 ≤ 12)) }
+    ensures value { result ≡ entry_above before (view item.now) }
+    ensures most { IfSome result (λ entry. entry.0 ≤ 12) }
 {
     let Value::String(text) = item else {
-        return Ok(None);
+        return None;
     };
-    match entry_of(alloc, text.as_bytes())? {
-        Some(entry) if before + 1 <= entry.0 && entry.0 <= 12 => Ok(Some(entry)),
-        _ => Ok(None),
+    match entry_of(text.as_bytes()) {
+        Some(entry) if before + 1 <= entry.0 && entry.0 <= 12 => Some(entry),
+        _ => None,
     }
 }
 
@@ -35,7 +35,7 @@ fn entries_of(alloc: Global, items: &[Value]) -> Result<Listed<(u8, Rule)>, Setu
     let mut entries = Vec::new(alloc);
     let mut before = 1;
     for item in items {
-        let Some(entry) = entry_above(alloc, before, item)? else {
+        let Some(entry) = entry_above(before, item) else {
             return Err(SetupFault::Bad {
                 rule: 12,
                 item: entries.len() as u32,

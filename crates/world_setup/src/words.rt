@@ -1,49 +1,90 @@
 // A text, cut at each of a byte.
-ghost use Rattle.std.specs.Prelude.{◌≡◌, ◌==◌, ◌∷◌, map, position, IfOk};
+ghost use Rattle.std.specs.Prelude.{◌≡◌, ◌<◌, ◌==◌, ◌∷◌, length, position, IfSome};
 ghost use Rattle.std.specs.Option.{option_copied};
-ghost use Rattle.world_setup.specs.Words.{parts_of, words_of, words_after};
+ghost use Rattle.world_setup.specs.Words.{parts_of, words_of, words_after, parts_after, AreFew};
 
-use pl_base::Memory;
-use std::alloc::Global;
-
-// What stands between the places of a byte, empty parts too.
-pub(crate) fn parts_of<'a>(alloc: Global, byte: u8, text: &'a [u8]) -> Result<Vec<&'a [u8]>, Memory>
-    ensures { IfOk result (λ parts. map (λ part. part.now) parts.items ≡ parts_of byte text.now) }
+fn first_place(byte: u8, text: &[u8]) -> Option<usize>
+    ensures { result ≡ position (λ b. b == byte) text.now }
 {
-    Ok(text.split(|b| *b == byte).collect(alloc)?)
+    text.iter().position(|b| *b == byte)
 }
 
-// What stands between spaces.
-pub(crate) fn words_of<'a>(alloc: Global, text: &'a [u8]) -> Result<Vec<&'a [u8]>, Memory>
-    ensures { IfOk result (λ words. map (λ word. word.now) words.items ≡ words_of text.now) }
-{
-    parts_of(alloc, b' ', text)
-}
-
-fn first_space(text: &[u8]) -> Option<usize>
-    ensures { result ≡ position (λ b. b == 32) text.now }
-{
-    text.iter().position(|b| *b == b' ')
-}
-
-// The first word of a text, and what stands behind its space.
+// The first part of a text, and what stands behind the byte that ends it.
 #[derive(Clone, Copy)]
-pub(crate) struct FirstWord<'a> {
-    pub(crate) word: &'a [u8],
+pub(crate) struct FirstPart<'a> {
+    pub(crate) part: &'a [u8],
     pub(crate) rest: Option<&'a [u8]>,
 }
 
-pub(crate) fn first_word(text: &[u8]) -> FirstWord<'_>
-    ensures { words_of text.now ≡ result.word.now ∷ words_after (option_copied result.rest) }
+pub(crate) fn first_part(byte: u8, text: &[u8]) -> FirstPart<'_>
+    ensures parts { parts_of byte text.now ≡ result.part.now ∷ parts_after byte (option_copied result.rest) }
+    ensures shorter { IfSome result.rest (λ rest. length rest.now < length text.now) }
 {
-    match first_space(text) {
-        Some(at) => FirstWord {
-            word: &text[..at],
+    match first_place(byte, text) {
+        Some(at) => FirstPart {
+            part: &text[..at],
             rest: Some(&text[at + 1..]),
         },
-        None => FirstWord {
-            word: text,
+        None => FirstPart {
+            part: text,
             rest: None,
         },
+    }
+}
+
+pub(crate) fn first_word(text: &[u8]) -> FirstPart<'_>
+    ensures { words_of text.now ≡ result.part.now ∷ words_after (option_copied result.rest) }
+{
+    first_part(b' ', text)
+}
+
+// The words of a text that has two, three or four of them.
+#[derive(Clone, Copy)]
+pub(crate) enum FewWords<'a> {
+    Two(&'a [u8], &'a [u8]),
+    Three(&'a [u8], &'a [u8], &'a [u8]),
+    Four(&'a [u8], &'a [u8], &'a [u8], &'a [u8]),
+    Other,
+}
+
+// With three words before the text.
+fn after_three<'a>(word: &'a [u8], a: &'a [u8], b: &'a [u8], text: &'a [u8]) -> FewWords<'a>
+    ensures { AreFew result (word.now ∷ a.now ∷ b.now ∷ words_of text.now) }
+{
+    let next = first_word(text);
+    match next.rest {
+        Some(_) => FewWords::Other,
+        None => FewWords::Four(word, a, b, next.part),
+    }
+}
+
+fn after_two<'a>(word: &'a [u8], a: &'a [u8], text: &'a [u8]) -> FewWords<'a>
+    ensures { AreFew result (word.now ∷ a.now ∷ words_of text.now) }
+{
+    let next = first_word(text);
+    match next.rest {
+        Some(rest) => after_three(word, a, next.part, rest),
+        None => FewWords::Three(word, a, next.part),
+    }
+}
+
+fn after_one<'a>(word: &'a [u8], text: &'a [u8]) -> FewWords<'a>
+    ensures { AreFew result (word.now ∷ words_of text.now) }
+{
+    let next = first_word(text);
+    match next.rest {
+        Some(rest) => after_two(word, next.part, rest),
+        None => FewWords::Two(word, next.part),
+    }
+}
+
+// Nothing is read behind a fifth word's place.
+pub(crate) fn few_words(text: &[u8]) -> FewWords<'_>
+    ensures { AreFew result (words_of text.now) }
+{
+    let first = first_word(text);
+    match first.rest {
+        Some(rest) => after_one(first.part, rest),
+        None => FewWords::Other,
     }
 }

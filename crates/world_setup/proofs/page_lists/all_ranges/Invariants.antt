@@ -1,7 +1,11 @@
-use Rattle.std.proofs.Common.{◌≡◌, ◌++◌, map, drop, option_map}
+use Rattle.std.proofs.Common.{◌≡◌, ◌++◌, suc, length, option_map}
+use Rattle.std.specs.Option.{option_copied, option_map_or}
+use Rattle.world_setup.specs.Words.{parts_of, parts_after}
 use Rattle.world_setup.specs.PageLists.{all_ranges}
 use Rattle.world_setup.proofs.page_lists.all_ranges.Given as goal
 
-abbrev pub invariant-loop-text : goal.invariant-loop-text
-invariant-loop-text l =
-    option_map (λ rest. l.ranges.items ++ rest) (all_ranges (map (λ text. text.now) (drop l.text-index l.texts))) ≡ all_ranges (map (λ text. text.now) l.texts)
+abbrev pub invariant-loop-rest : goal.invariant-loop-rest
+invariant-loop-rest l = option_map (λ ranges. l.ranges.items ++ ranges) (all_ranges (parts_after 44 (option_copied l.rest))) ≡ all_ranges (parts_of 44 l.fn.text)
+
+abbrev pub decreases-loop-rest : goal.decreases-loop-rest
+decreases-loop-rest l = option_map_or (λ text. suc (length text)) (option_copied l.rest) 0
