@@ -78,7 +78,7 @@ fn after_one<'a>(word: &'a [u8], text: &'a [u8]) -> FewWords<'a>
     }
 }
 
-// Nothing is read behind a fifth word's place.
+// What stands behind a fourth word isn't read.
 pub(crate) fn few_words(text: &[u8]) -> FewWords<'_>
     ensures { AreFew result (words_of text.now) }
 {
