@@ -105,6 +105,7 @@ fn push_text<'a>(all: &mut Vec<&'a str>, item: &'a Value) -> Result<(), Memory>
 fn push_items<'a>(all: &mut Vec<&'a str>, items: &'a [Value]) -> Result<(), Memory>
     ensures { OnOk result (map (λ t. t.now) all.new.items ≡ map (λ t. t.now) all.old.items ++ filter_map (λ v. as_str (view v)) items.entry.now) }
 {
+    all.reserve(items.len())?;
     for item in items {
         push_text(all, item)?;
     }
@@ -258,7 +259,7 @@ fn push_line(alloc: Global, lines: &mut Vec<Line>, text: &str) -> Result<(), Mem
 fn gather_lines(alloc: Global, texts: &[&str]) -> Result<Listed<Line>, Memory>
     ensures { IfOk result (λ lines. lines ≡ filter_map (λ t. line_of t.now) texts.now) }
 {
-    let mut lines = Vec::new(alloc);
+    let mut lines = Vec::with_capacity(alloc, texts.len())?;
     for text in texts {
         push_line(alloc, &mut lines, text)?;
     }
@@ -305,7 +306,7 @@ fn push_attack_line(alloc: Global, lines: &mut Vec<AttackLine>, text: &str) -> R
 fn gather_attack_lines(alloc: Global, texts: &[&str]) -> Result<Listed<AttackLine>, Memory>
     ensures { IfOk result (λ lines. lines ≡ filter_map (λ t. attack_line_of t.now) texts.now) }
 {
-    let mut lines = Vec::new(alloc);
+    let mut lines = Vec::with_capacity(alloc, texts.len())?;
     for text in texts {
         push_attack_line(alloc, &mut lines, text)?;
     }
