@@ -2,7 +2,7 @@
 use Rattle.std.proofs.Common.{◌≡◌, ℕ, ◌+◌, ◌-◌, ◌≤◌, List, ◌++◌, length, take, drop, arith, ap, ◌∙◌, sym, refl, length-append, length-drop}
 use Rattle.std.proofs.Math.Seq.{take-append-add}
 use Rattle.std.proofs.lemmas.List.{length-take-le, take_at, drop_at, take-append-le, drop-append-le, drop-drop, drop-take, take-take}
-use Rattle.mem_geom.specs.Bytes.{bytes_at, with_bytes}
+use Rattle.pl_base.specs.Bytes.{bytes_at, with_bytes}
 
 module _ (all : List ℕ) (at : ℕ) (bytes : List ℕ) (fits : at + length bytes ≤ length all) where
   front : length (take at all) ≡ at

@@ -1,6 +1,6 @@
 -- A write at a place changes that place alone.
 use Rattle.std.proofs.Common.{◌≡◌, ℕ, ◌+◌, ◌-◌, ◌≤◌, ⊎_elim, length, arith, ap, ◌∙◌, sym}
-use Rattle.mem_geom.specs.Bytes.{bytes_at, with_bytes}
+use Rattle.pl_base.specs.Bytes.{bytes_at, with_bytes}
 use Rattle.mem_geom.specs.Layout.{place_start, place_end, place_length}
 use Rattle.mem_geom.specs.Laws.{AreApart, WritesChangeOnePlace}
 use Rattle.mem_geom.proofs.Parts.{length-with_bytes, bytes_at-with_bytes, bytes_at-with_bytes_before, bytes_at-with_bytes_after}

@@ -2,7 +2,7 @@
 use Rattle.std.specs.Prelude.{ℕ, ◌+◌, ◌-◌, ◌*◌, ◌<◌, ◌==◌, if◌then◌else◌, List}
 use Rattle.pl_base.specs.declared.place.Place.{Place}
 use Rattle.pl_base.specs.declared.place.Place.TheVariants.{Block, Node, RootNode}
-use Rattle.mem_geom.specs.Bytes.{bytes_at}
+use Rattle.pl_base.specs.Bytes.{bytes_at}
 
 -- the address of a page
 abbrev pub page_start : ℕ → ℕ

@@ -1,5 +1,5 @@
 ghost use Rattle.std.specs.Prelude.{◌≡◌, ◌+◌, ◌-◌, ◌≤◌, length, All, IfOk};
-ghost use Rattle.mem_geom.specs.Bytes.{bytes_at, with_bytes};
+ghost use Rattle.pl_base.specs.Bytes.{bytes_at, with_bytes};
 ghost use Rattle.mem_geom.specs.Layout.{memory_size};
 
 use crate::layout::{FIRST_ADDRESS, TABLE_BYTES, ZONE_BYTES, ZONE_NODE_BYTES};

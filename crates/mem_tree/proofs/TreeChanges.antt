@@ -7,7 +7,7 @@ use Rattle.std.proofs.lemmas.List.Elements.{All-head, All-tail, All-take, All-dr
 use Rattle.std.specs.List.{concat}
 use Rattle.pl_digest.specs.Trees.{piece, lower_nodes, upper_node}
 use Rattle.pl_digest.proofs.PieceLemmas.{AllOfLength}
-use Rattle.mem_geom.specs.Bytes.{with_bytes}
+use Rattle.pl_base.specs.Bytes.{with_bytes}
 use Rattle.mem_tree.specs.Paths.{with_entry}
 use Rattle.mem_tree.specs.Zones.{nth}
 use Rattle.mem_tree.proofs.DigestSteps.{digests_of_length}

@@ -6,7 +6,7 @@ use Rattle.std.proofs.lemmas.List.{get_or-set_other, get_or-set_same, length-map
 use Rattle.std.proofs.lemmas.List.Elements.{All-map}
 use Rattle.pl_digest.specs.Trees.{piece, blocks, lower_nodes, upper_node, block_digests, page_root, page_roots, zone_root}
 use Rattle.pl_digest.proofs.PieceLemmas.{AllOfLength, get_or-pieces, length-pieces}
-use Rattle.mem_geom.specs.Bytes.{with_bytes}
+use Rattle.pl_base.specs.Bytes.{with_bytes}
 use Rattle.mem_geom.proofs.Parts.{bytes_at-with_bytes_after, bytes_at-with_bytes_before, bytes_at-with_bytes_inside}
 use Rattle.mem_tree.specs.declared.new_path.NewPath.{NewPath}
 use Rattle.mem_tree.specs.Paths.{with_entry}

@@ -5,7 +5,7 @@ use Rattle.std.specs.Str.{bytes_eq}
 use Rattle.pl_base.specs.declared.place.Place.{Place}
 use Rattle.pl_base.specs.declared.place.Place.TheVariants.{Block, Node, RootNode}
 use Rattle.pl_digest.specs.Trees.{piece}
-use Rattle.mem_geom.specs.Bytes.{with_bytes}
+use Rattle.pl_base.specs.Bytes.{with_bytes}
 use Rattle.mem_geom.specs.Tree.{parent, entry_number}
 use Rattle.mem_tree.specs.declared.sealed.Verdict.{Verdict}
 use Rattle.mem_tree.specs.declared.sealed.Verdict.TheVariants.{Holds, Breaks}

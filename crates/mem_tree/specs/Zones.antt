@@ -1,7 +1,7 @@
 -- The paths through the tree over a zone's pages.
 use Rattle.std.specs.Prelude.{ℕ, ◌≡◌, ◌/◌, ◌%◌, List, [], length, All, slice_index_or, slice_set}
 use Rattle.pl_digest.specs.Trees.{piece, lower_nodes, upper_node, block_digests, page_roots, zone_root}
-use Rattle.mem_geom.specs.Bytes.{with_bytes}
+use Rattle.pl_base.specs.Bytes.{with_bytes}
 use Rattle.mem_tree.specs.declared.new_path.NewPath.{NewPath}
 use Rattle.mem_tree.specs.declared.sealed.Verdict.TheVariants.{Holds}
 use Rattle.mem_tree.specs.declared.taken.Taken.{Taken}

@@ -1,6 +1,6 @@
 ghost use Rattle.std.specs.Prelude.{◌≡◌};
 ghost use Rattle.byteorder.specs.Endian.{little_bytes};
-ghost use Rattle.mem_geom.specs.Bytes.{with_bytes};
+ghost use Rattle.pl_base.specs.Bytes.{with_bytes};
 ghost use Rattle.mem_tree.specs.Words.{IsPart};
 
 use byteorder::{ByteOrder, LittleEndian};

@@ -1,6 +1,6 @@
 ghost use Rattle.std.specs.Prelude.{◌≡◌, ◌+◌, ◌*◌, ◌/◌, ◌%◌, ◌<◌, List, ℕ};
 ghost use Rattle.byteorder.specs.Endian.{little_bytes};
-ghost use Rattle.mem_geom.specs.Bytes.{with_bytes};
+ghost use Rattle.pl_base.specs.Bytes.{with_bytes};
 ghost use Rattle.mem_tree.specs.Paths.{verdict_of, with_entry};
 ghost use Rattle.mem_tree.specs.Words.{path_of, IsInRange, IsPart};
 ghost use Rattle.mem_tree.specs.Zones.{IsZone, zone_path, taken_path, with_page_part};

@@ -1,4 +1,6 @@
 // Addresses and page numbers of the machine.
+ghost use Rattle.std.specs.Prelude.{◌≡◌};
+ghost use Rattle.pl_base.specs.Address.{vpn_of};
 
 /// A virtual page number: bits 38:12 of an address (Sv39).
 #[derive(Clone, Copy, PartialEq, Eq, Debug, Default)]
@@ -15,3 +17,12 @@ pub struct Pa(pub u64);
 /// A virtual address, in bytes.
 #[derive(Clone, Copy, PartialEq, Eq, Debug, Default)]
 pub struct Va(pub u64);
+
+impl Va {
+    /// The page number of the address: its bits 38:12 (RISC-V Privileged Architecture, Sv39).
+    pub fn vpn(self) -> Vpn
+        ensures { result ≡ vpn_of self }
+    {
+        Vpn(self.0 >> 12 & 0x7ff_ffff)
+    }
+}

@@ -9,9 +9,11 @@ mod address;
 mod fault;
 mod listed;
 mod number;
+mod page;
 mod perms;
 mod place;
 mod refusal;
+mod span;
 mod state;
 
 pub use access::{Kind, Mode};
@@ -20,9 +22,11 @@ pub use address::{Pa, Ppn, Va, Vpn};
 pub use fault::{Failed, Memory};
 pub use listed::Listed;
 pub use number::{EncNo, HartNo, HartSet, Space};
+pub use page::{IMAGE_START, PAGE_BYTES};
 pub use perms::Perms;
 pub use place::Place;
 pub use refusal::No;
+pub use span::Span;
 pub use state::{State, Why};
 
 #[cfg(test)]

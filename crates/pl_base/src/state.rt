@@ -1,4 +1,7 @@
 // The states of an enclave number, and why a run leaves.
+ghost use Rattle.std.specs.Prelude.{◌≡◌};
+ghost use Rattle.pl_base.specs.States.{is_free, is_fresh, is_paused, is_absent, is_wordless, state_left};
+
 use crate::place::Place;
 
 /// The state of an enclave number.
@@ -14,6 +17,46 @@ pub enum State {
     Faulted,
     Dying,
     Sealed,
+}
+
+impl State {
+    /// Whether nothing was made of the number.
+    pub fn is_free(self) -> bool
+        ensures { result ≡ is_free self }
+    {
+        matches!(self, State::Free)
+    }
+
+    /// Whether it was made and hasn't run: `run` needs that.
+    pub fn is_fresh(self) -> bool
+        ensures { result ≡ is_fresh self }
+    {
+        matches!(self, State::Fresh)
+    }
+
+    /// Whether a run left it and another may go on: `resume` needs that.
+    pub fn is_paused(self) -> bool
+        ensures { result ≡ is_paused self }
+    {
+        matches!(self, State::Paused)
+    }
+
+    /// Whether there is no enclave to run: the number is free or sealed.
+    pub fn is_absent(self) -> bool
+        ensures { result ≡ is_absent self }
+    {
+        matches!(self, State::Free | State::Sealed)
+    }
+
+    /// Whether no word goes in or out: the number is free, sealed, building or dying.
+    pub fn is_wordless(self) -> bool
+        ensures { result ≡ is_wordless self }
+    {
+        matches!(
+            self,
+            State::Free | State::Sealed | State::Building | State::Dying
+        )
+    }
 }
 
 /// Why a run left its enclave.
@@ -33,4 +76,18 @@ pub enum Why {
     Trapped { cause: u8, value: u64 },
     /// This place wasn't as its parent has it.
     Fault(Place),
+}
+
+impl Why {
+    /// The state in which a run leaves its enclave.
+    pub fn state_left(self) -> State
+        ensures { result ≡ state_left self }
+    {
+        match self {
+            Why::Ended(_) => State::Ended,
+            Why::Trapped { .. } => State::Trapped,
+            Why::Fault(_) => State::Faulted,
+            Why::Budget | Why::Waiting | Why::OutFull | Why::NeedPage => State::Paused,
+        }
+    }
 }

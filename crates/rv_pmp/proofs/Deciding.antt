@@ -11,11 +11,11 @@ use Rattle.rv_pmp.proofs.AlignedSpan.{trailing_ones-le, size_below, start_below}
 use Rattle.rv_pmp.proofs.Spans.{covers-trans, overlaps-from_covers, apart-part, apart-above}
 use Rattle.rv_pmp.specs.Pmp.{permits_after}
 use Rattle.rv_pmp.specs.Rule.{span_by, span_of, is_valid, matching_of, perms_of, grants_each}
-use Rattle.rv_pmp.specs.Span.{overlaps, covers}
+use Rattle.pl_base.specs.Span.{overlaps, covers}
 use Rattle.rv_pmp.specs.declared.rule.Matching.{Matching}
 use Rattle.rv_pmp.specs.declared.rule.Matching.TheVariants.{Off, Tor, Na4, Napot}
 use Rattle.rv_pmp.specs.declared.rule.Rule.{Rule}
-use Rattle.rv_pmp.specs.declared.span.Span.{Span}
+use Rattle.pl_base.specs.declared.span.Span.{Span}
 
 -- no rule reaches address 2 ^ 59
 pub span_by-stop : (m : Matching) (before addr : ℕ) → before < 2 ^ 54 → addr < 2 ^ 54 → (span_by m before addr).stop ≤ 2 ^ 59

@@ -2,7 +2,7 @@
 use Rattle.std.proofs.Common.{◌≡◌, ℕ, zero, suc, ◌+◌, ◌*◌, ◌/◌, ◌-◌, ◌%◌, ◌<◌, ◌≤◌, true, subst, arith}
 use Rattle.std.proofs.lemmas.Bool.Decides.{nat_tests}
 use Rattle.rv_pmp.specs.Pmp.{IsWidth}
-use Rattle.rv_pmp.specs.Span.{span, covers}
+use Rattle.pl_base.specs.Span.{span, covers}
 
 -- the number of the piece that an address is in, in a page at `start`
 pub piece_of : ℕ → ℕ → ℕ

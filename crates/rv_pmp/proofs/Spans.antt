@@ -1,8 +1,8 @@
 -- Ranges that cover, meet or miss one another.
 use Rattle.std.proofs.Common.{◌≡◌, ◌<◌, ◌≤◌, true, false, arith}
 use Rattle.std.proofs.lemmas.Bool.Decides.{nat_tests}
-use Rattle.rv_pmp.specs.Span.{overlaps, covers}
-use Rattle.rv_pmp.specs.declared.span.Span.{Span}
+use Rattle.pl_base.specs.Span.{overlaps, covers}
+use Rattle.pl_base.specs.declared.span.Span.{Span}
 
 pub covers-trans : (a b c : Span) → covers a b ≡ true → covers b c ≡ true → covers a c ≡ true
 covers-trans a b c ab bc = grind (arith, nat_tests)

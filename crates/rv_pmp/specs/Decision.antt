@@ -2,9 +2,9 @@
 use Rattle.std.specs.Prelude.{ℕ, ◌+◌, ◌*◌, ◌<◌, IsTrue, IsFalse, List}
 use Rattle.pl_base.specs.declared.access.Kind.{Kind}
 use Rattle.rv_pmp.specs.Pmp.{permits_after}
-use Rattle.rv_pmp.specs.Span.{span, overlaps, covers}
+use Rattle.pl_base.specs.Span.{span, overlaps, covers}
 use Rattle.rv_pmp.specs.declared.rule.Rule.{Rule}
-use Rattle.rv_pmp.specs.declared.span.Span.{Span}
+use Rattle.pl_base.specs.declared.span.Span.{Span}
 
 -- an access is let through for all three kinds
 abbrev pub PermitsEach : List Rule → Span → Type 0

@@ -1,4 +1,3 @@
 pub mod Decision
 pub mod Pmp
 pub mod Rule
-pub mod Span

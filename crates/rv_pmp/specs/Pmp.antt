@@ -3,9 +3,9 @@ use Rattle.std.specs.Prelude.{ℕ, ◌+◌, ◌*◌, ◌%◌, ◌<◌, ◌≤◌
 use Rattle.pl_base.specs.Perms.{grants}
 use Rattle.pl_base.specs.declared.access.Kind.{Kind}
 use Rattle.rv_pmp.specs.Rule.{perms_of, span_of}
-use Rattle.rv_pmp.specs.Span.{span, overlaps, covers}
+use Rattle.pl_base.specs.Span.{span, overlaps, covers}
 use Rattle.rv_pmp.specs.declared.rule.Rule.{Rule}
-use Rattle.rv_pmp.specs.declared.span.Span.{Span}
+use Rattle.pl_base.specs.declared.span.Span.{Span}
 
 -- The first rule that matches a byte of the access decides: it has to match every byte, and to have the bit of the kind.
 -- Where none matches, the access is refused. `before` is the register of the rule before these.

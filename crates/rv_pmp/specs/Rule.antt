@@ -4,11 +4,11 @@ use Rattle.std.specs.Int.{trailing_ones, w64}
 use Rattle.pl_base.specs.Perms.{grants}
 use Rattle.pl_base.specs.declared.access.Kind.TheVariants.{Fetch, Load, Store}
 use Rattle.pl_base.specs.declared.perms.Perms.{Perms}
-use Rattle.rv_pmp.specs.Span.{span}
+use Rattle.pl_base.specs.Span.{span}
 use Rattle.rv_pmp.specs.declared.rule.Matching.{Matching}
 use Rattle.rv_pmp.specs.declared.rule.Matching.TheVariants.{Off, Tor, Na4, Napot}
 use Rattle.rv_pmp.specs.declared.rule.Rule.{Rule}
-use Rattle.rv_pmp.specs.declared.span.Span.{Span}
+use Rattle.pl_base.specs.declared.span.Span.{Span}
 
 -- bits 2:0 of the configuration, X, W and R: what the rule lets through
 abbrev pub perms_of : Rule → Perms

@@ -1,13 +1,12 @@
 ghost use Rattle.std.specs.Prelude.{◌≡◌, ◌+◌, ◌*◌, ◌%◌, ◌<◌, ◌≤◌, ◌^◌, ◌&&◌, ◌↔◌, IsTrue, IsFalse, IfNone, IfSome, ℕ};
 ghost use Rattle.std.specs.List.{AllPass};
 ghost use Rattle.rv_pmp.specs.Rule.{perms_of, grants_each, is_valid};
-ghost use Rattle.rv_pmp.specs.Span.{span, overlaps, covers};
+ghost use Rattle.pl_base.specs.Span.{span, overlaps, covers};
 ghost use Rattle.rv_pmp.specs.Decision.{PermitsEach, IsOpen, PiecesOpen, LeavesFree};
 ghost use Rattle.rv_pmp.specs.Pmp.{permits_after};
 
 use crate::rule::Rule;
-use crate::span::Span;
-use pl_base::Kind;
+use pl_base::{Kind, Span};
 
 /// The bytes of the pieces that a page is looked at in.
 const PIECE: u64 = 8;

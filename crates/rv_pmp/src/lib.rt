@@ -5,7 +5,6 @@ mod decision;
 mod law;
 mod pmp;
 mod rule;
-mod span;
 
 pub use law::registers_name_ranges;
 pub use pmp::Pmp;

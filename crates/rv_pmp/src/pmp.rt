@@ -5,8 +5,7 @@ ghost use Rattle.rv_pmp.specs.Pmp.{permits, PageAllowed, AccessesAllowed};
 
 use crate::decision::{PAGE_SIZE, decides, page_is_open};
 use crate::rule::Rule;
-use crate::span::Span;
-use pl_base::{Kind, Pa};
+use pl_base::{Kind, Pa, Span};
 use std::marker::Model;
 
 /// Where page 0 of off-chip memory begins.

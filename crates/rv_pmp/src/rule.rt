@@ -1,8 +1,7 @@
 ghost use Rattle.std.specs.Prelude.{◌≡◌, ◌<◌, ◌^◌, IsTrue};
 ghost use Rattle.rv_pmp.specs.Rule.{perms_of, matching_of, is_valid, aligned_span, span_of};
 
-use crate::span::Span;
-use pl_base::{Kind, Perms};
+use pl_base::{Kind, Perms, Span};
 
 /// How a rule's register is read: field A of its configuration.
 #[derive(Clone, Copy, PartialEq, Eq, Debug)]

@@ -6,9 +6,9 @@ use Rattle.pl_base.specs.declared.access.Kind.TheVariants.{Load}
 use Rattle.rv_pmp.proofs.Deciding.{barred_by}
 use Rattle.rv_pmp.specs.Pmp.{permits_after}
 use Rattle.rv_pmp.specs.Rule.{perms_of, grants_each}
-use Rattle.rv_pmp.specs.Span.{span, overlaps, covers}
+use Rattle.pl_base.specs.Span.{span, overlaps, covers}
 use Rattle.rv_pmp.specs.declared.rule.Rule.{Rule}
-use Rattle.rv_pmp.specs.declared.span.Span.{Span}
+use Rattle.pl_base.specs.declared.span.Span.{Span}
 use Rattle.rv_pmp.proofs.decision.open_until.Goals as goal
 
 pub returns-then-overlaps-clause-barred : goal.returns-then-overlaps-clause-barred

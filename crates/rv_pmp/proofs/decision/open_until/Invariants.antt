@@ -1,8 +1,8 @@
 use Rattle.std.proofs.Common.{◌≡◌, ◌<◌, ◌≤◌, ◌+◌, ◌^◌, drop, IsTrue}
 use Rattle.pl_base.specs.declared.access.Kind.{Kind}
 use Rattle.rv_pmp.specs.Pmp.{permits_after}
-use Rattle.rv_pmp.specs.Span.{span, covers}
-use Rattle.rv_pmp.specs.declared.span.Span.{Span}
+use Rattle.pl_base.specs.Span.{span, covers}
+use Rattle.pl_base.specs.declared.span.Span.{Span}
 use Rattle.rv_pmp.proofs.decision.open_until.Given as goal
 
 -- the rules that are left decide, up to `free`, as all of them do

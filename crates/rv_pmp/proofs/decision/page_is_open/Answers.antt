@@ -1,7 +1,7 @@
 use Rattle.std.proofs.Common.{◌+◌, subst}
 use Rattle.rv_pmp.proofs.Pieces.{piece_of, piece_of-lt, piece_begins}
 use Rattle.rv_pmp.specs.Decision.{PermitsEach}
-use Rattle.rv_pmp.specs.Span.{span}
+use Rattle.pl_base.specs.Span.{span}
 use Rattle.rv_pmp.proofs.decision.page_is_open.Goals as goal
 
 pub returns-in-None : goal.returns-in-None

@@ -1,6 +1,6 @@
 use Rattle.std.proofs.Common.{◌≡◌, ◌≤◌, ◌+◌, ◌-◌, ◌*◌, ◌%◌, ℕ}
 use Rattle.rv_pmp.specs.Decision.{PermitsEach}
-use Rattle.rv_pmp.specs.Span.{span}
+use Rattle.pl_base.specs.Span.{span}
 use Rattle.rv_pmp.proofs.decision.page_is_open.Given as goal
 
 -- the pieces below `at` are let through

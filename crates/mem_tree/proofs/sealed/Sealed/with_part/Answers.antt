@@ -1,7 +1,7 @@
 use Rattle.std.proofs.Common.{◌≡◌, ℕ, ◌+◌, ◌/◌, ◌%◌, ◌<◌, ◌≤◌, List, length, rules, arith, ap, ◌∙◌}
 use Rattle.byteorder.specs.Endian.{little_bytes}
 use Rattle.byteorder.specs.Numbers.{length-bytes_low_first}
-use Rattle.mem_geom.specs.Bytes.{with_bytes}
+use Rattle.pl_base.specs.Bytes.{with_bytes}
 use Rattle.mem_tree.specs.Paths.{with_entry}
 use Rattle.mem_tree.specs.Zones.{taken_path}
 use Rattle.mem_tree.proofs.ZoneChanges.{zone_path-with_page_part}

@@ -1,6 +1,6 @@
 use Rattle.std.proofs.Common.{◌+◌, ◌^◌, ◌≤◌, sym, arith}
 use Rattle.rv_pmp.proofs.Deciding.{permits_after_far}
-use Rattle.rv_pmp.specs.Span.{span}
+use Rattle.pl_base.specs.Span.{span}
 use Rattle.rv_pmp.proofs.pmp.Pmp.allows.Goals as goal
 
 pub returns-in-None : goal.returns-in-None

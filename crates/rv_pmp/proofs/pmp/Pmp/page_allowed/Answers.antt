@@ -2,7 +2,7 @@ use Rattle.std.proofs.Common.{◌+◌, ◌*◌, ◌%◌, ◌≡◌, arith}
 use Rattle.rv_pmp.proofs.Deciding.{permits_after-part}
 use Rattle.rv_pmp.proofs.Pieces.{piece_of, piece_of-lt, piece_covers}
 use Rattle.rv_pmp.specs.Pmp.{page_address}
-use Rattle.rv_pmp.specs.Span.{span}
+use Rattle.pl_base.specs.Span.{span}
 use Rattle.rv_pmp.proofs.pmp.Pmp.page_allowed.Goals as goal
 
 pub returns-clause-accesses : goal.returns-clause-accesses

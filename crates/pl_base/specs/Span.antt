@@ -1,6 +1,6 @@
 -- Ranges of byte addresses.
 use Rattle.std.specs.Prelude.{ℕ, Bool, nat_lt, nat_le, min, max, ◌&&◌}
-use Rattle.rv_pmp.specs.declared.span.Span.{Span}
+use Rattle.pl_base.specs.declared.span.Span.{Span}
 
 -- the addresses from one up to another, which is not in it
 abbrev pub span : ℕ → ℕ → Span

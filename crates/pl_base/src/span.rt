@@ -1,5 +1,5 @@
 ghost use Rattle.std.specs.Prelude.{◌≡◌};
-ghost use Rattle.rv_pmp.specs.Span.{overlaps, covers};
+ghost use Rattle.pl_base.specs.Span.{overlaps, covers};
 
 /// The byte addresses from `start` up to `stop`, which is not in it.
 #[derive(Clone, Copy, PartialEq, Eq, Debug)]

@@ -1,0 +1,7 @@
+// The sizes that every layer shares.
+
+/// The bytes of a page.
+pub const PAGE_BYTES: u64 = 4096;
+
+/// The virtual address of the first page of an enclave image: page `i` stands at `IMAGE_START + 4096·i`.
+pub const IMAGE_START: u64 = 0x1_0000;
