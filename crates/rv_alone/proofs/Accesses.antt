@@ -3,7 +3,8 @@ use Rattle.std.proofs.Common.{◌≡◌, ◌<◌, ◌+◌, ◌*◌, ◌/◌, ◌
 use Rattle.std.proofs.lemmas.Bool.{cases_Bool, eqb-true}
 use Rattle.rv_insn.specs.declared.insn.Insn.{Insn}
 use Rattle.rv_insn.specs.declared.insn.Insn.TheVariants.{Lui, Auipc, Jal, Jalr, Branch, Load, Store, OpImm, Op, Fence, Ecall, Ebreak}
-use Rattle.rv_insn.specs.Table.{IsWellFormed, is_width}
+use Rattle.pl_base.specs.Width.{is_width}
+use Rattle.rv_insn.specs.Table.{IsWellFormed}
 use Rattle.rv_alu.specs.Values.{is_taken}
 use Rattle.rv_alone.specs.declared.step.Act.TheVariants.{Set, Trap}
 use Rattle.rv_alone.specs.declared.step.Context.{Context}

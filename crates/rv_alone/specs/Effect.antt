@@ -2,9 +2,10 @@
 -- (RISC-V Unprivileged ISA, RV64I and the M extension; the causes of traps are the Privileged Architecture's).
 use Rattle.std.specs.Prelude.{◌≡◌, ℕ, ℤ, pos, ◌+ℤ◌, ◌+◌, ◌*◌, ◌/◌, ◌%◌, ◌^◌, ◌<◌, ◌==◌, Bool, if◌then◌else◌, List, slice_index, slice_set, IsTrue}
 use Rattle.std.specs.Option.{option_map_or}
+use Rattle.pl_base.specs.Width.{is_width}
 use Rattle.rv_insn.specs.declared.insn.Insn.{Insn}
 use Rattle.rv_insn.specs.declared.insn.Insn.TheVariants as insn
-use Rattle.rv_insn.specs.Table.{instruction_of, is_width}
+use Rattle.rv_insn.specs.Table.{instruction_of}
 use Rattle.rv_insn.specs.Word.{signed}
 use Rattle.rv_alu.specs.Values.{wrapped, alu_value, is_taken}
 use Rattle.rv_alone.specs.declared.step.Act.{Act}

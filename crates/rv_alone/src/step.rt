@@ -1,5 +1,6 @@
 ghost use Rattle.std.specs.Prelude.{◌≡◌, ◌<◌, ◌*◌, ◌/◌, ◌%◌, IsTrue};
-ghost use Rattle.rv_insn.specs.Table.{IsWellFormed, is_width};
+ghost use Rattle.pl_base.specs.Width.{is_width};
+ghost use Rattle.rv_insn.specs.Table.{IsWellFormed};
 ghost use Rattle.rv_alu.specs.Values.{wrapped};
 ghost use Rattle.rv_alone.specs.Effect.{IsAligned, IsAccess, act_of, advanced, effect_of, goes_to, links, loaded, loaded_value, loads, register, sets, stores, sum_of, with_register};
 

@@ -1,7 +1,7 @@
 // Accesses of an enclave to its pages.
 ghost use Rattle.std.specs.Prelude.{◌≡◌, ◌<◌, ◌%◌, IsTrue, length, if◌then◌else◌, Some, None, false};
 ghost use Rattle.std.specs.List.{All};
-ghost use Rattle.rv_insn.specs.Table.{is_width};
+ghost use Rattle.pl_base.specs.Width.{is_width};
 ghost use Rattle.rv_alone.specs.Flat.{fetched, read, stored};
 ghost use Rattle.world_core.specs.Pages.{numbers_of, flat_pages, located, AreApart, SameOutside};
 

@@ -1,7 +1,7 @@
 // The bytes of all pages.
 ghost use Rattle.std.specs.Prelude.{◌≡◌, ◌+◌, ◌<◌, ◌≤◌, ◌%◌, IsTrue, length, drop, replicate, slice_set, IfOk};
 ghost use Rattle.byteorder.specs.Endian.{little_number};
-ghost use Rattle.rv_insn.specs.Table.{is_width};
+ghost use Rattle.pl_base.specs.Width.{is_width};
 ghost use Rattle.world_core.specs.Memory.{zero_page, bytes_of, with_value};
 
 use byteorder::{ByteOrder, LittleEndian};
