@@ -1,3 +1,4 @@
 pub mod Layout
 pub mod Laws
+pub mod Ranges
 pub mod Tree

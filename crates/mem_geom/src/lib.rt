@@ -12,7 +12,7 @@ pub use dram::Dram;
 pub use laws::{
     bytes_have_one_place, nodes_follow_one_another, ranges_are_apart, writes_change_one_place,
 };
-pub use layout::{FIRST_ADDRESS, place_range};
+pub use layout::{MEMORY_START, memory_end, page_start, place_range};
 
 #[cfg(test)]
 mod tests;
