@@ -1,6 +1,7 @@
 -- The decision of a list of rules (RISC-V Privileged Architecture, Physical Memory Protection, Priority and Matching Logic).
-use Rattle.std.specs.Prelude.{ℕ, ◌+◌, ◌*◌, ◌%◌, ◌<◌, ◌≤◌, ◌≡◌, Bool, false, IsTrue, Contains, ◌&&◌, if◌then◌else◌, List, [], ◌∷◌}
+use Rattle.std.specs.Prelude.{ℕ, ◌+◌, ◌*◌, ◌%◌, ◌<◌, ◌≤◌, ◌≡◌, Bool, false, IsTrue, ◌&&◌, if◌then◌else◌, List, [], ◌∷◌}
 use Rattle.pl_base.specs.Perms.{grants}
+use Rattle.pl_base.specs.Width.{is_width}
 use Rattle.pl_base.specs.declared.access.Kind.{Kind}
 use Rattle.rv_pmp.specs.Rule.{perms_of, span_of}
 use Rattle.pl_base.specs.Span.{span, overlaps, covers}
@@ -29,12 +30,8 @@ abbrev pub PageAllowed : List Rule → ℕ → Type 0
 PageAllowed rules page =
     (piece : ℕ) → piece < 512 → (kind : Kind) → IsTrue (permits rules (page_address page + 8 * piece) 8 kind)
 
--- an access has 1, 2, 4 or 8 bytes
-abbrev pub IsWidth : ℕ → Type 0
-IsWidth width = Contains (1 ∷ 2 ∷ 4 ∷ 8 ∷ []) width
-
 -- every aligned access inside the page is let through
 abbrev pub AccessesAllowed : List Rule → ℕ → Type 0
 AccessesAllowed rules page =
-    (pa width : ℕ) (kind : Kind) → IsWidth width → pa % width ≡ 0
+    (pa width : ℕ) (kind : Kind) → IsTrue (is_width width) → pa % width ≡ 0
     → page_address page ≤ pa → pa < page_address page + 4096 → IsTrue (permits rules pa width kind)

@@ -1,5 +1,6 @@
 -- What one word of a table says (RISC-V Privileged Architecture, Virtual Address Translation Process).
-use Rattle.std.specs.Prelude.{ℕ, ◌^◌, ◌<◌, ◌==◌, ◌||◌, not, if◌then◌else◌}
+use Rattle.std.specs.Prelude.{ℕ, ◌==◌, ◌||◌, not, if◌then◌else◌}
+use Rattle.pl_base.specs.Address.{IsPpn}
 use Rattle.pl_base.specs.Perms.{grants}
 use Rattle.pl_base.specs.declared.access.Kind.{Kind}
 use Rattle.pl_base.specs.declared.access.Mode.{Mode}
@@ -22,8 +23,8 @@ step level word vpn kind mode =
     else (if not (is_marked word kind) then PageFault
     else Leaf (page_of level word vpn) (perms_of word))))))
 
--- the page number that a step gives has 44 bits
-abbrev pub IsSmall : Walked → Type 0
-IsSmall (Next ppn) = ppn.0 < 2 ^ 44
-IsSmall (Leaf ppn perms) = ppn.0 < 2 ^ 44
-IsSmall PageFault = Unit {0}
+-- the page that a step gives has a number that a table word can hold
+abbrev pub GivesPpn : Walked → Type 0
+GivesPpn (Next ppn) = IsPpn ppn
+GivesPpn (Leaf ppn perms) = IsPpn ppn
+GivesPpn PageFault = Unit {0}

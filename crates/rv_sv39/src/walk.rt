@@ -1,5 +1,5 @@
 ghost use Rattle.std.specs.Prelude.{◌≡◌, ◌<◌};
-ghost use Rattle.rv_sv39.specs.Step.{step, IsSmall};
+ghost use Rattle.rv_sv39.specs.Step.{step, GivesPpn};
 
 use crate::word::{
     A, D, U, has, is_aligned, is_formed, is_marked, is_reached, names_table, page_of, perms_of,
@@ -22,7 +22,7 @@ pub enum Walked {
 pub fn walk_step(level: u8, word: u64, vpn: Vpn, kind: Kind, mode: Mode) -> Walked
     requires { level < 3 }
     ensures step { result ≡ step level word vpn kind mode }
-    ensures small { IsSmall result }
+    ensures ppn { GivesPpn result }
 {
     if !is_formed(word) {
         return Walked::PageFault;

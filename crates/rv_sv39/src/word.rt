@@ -1,4 +1,5 @@
 ghost use Rattle.std.specs.Prelude.{◌≡◌, ◌<◌, ◌*◌, ◌^◌};
+ghost use Rattle.pl_base.specs.Address.{IsPpn};
 ghost use Rattle.rv_sv39.specs.Word.{has, ppn_of, perms_of, is_formed, names_table, is_reached, is_aligned, is_marked, page_of};
 
 use pl_base::{Kind, Mode, Perms, Ppn, Vpn};
@@ -95,7 +96,7 @@ pub fn perms_of(word: u64) -> Perms
 pub fn page_of(level: u8, word: u64, vpn: Vpn) -> Ppn
     requires { level < 3 }
     ensures page { result ≡ page_of level word vpn }
-    ensures small { result.0 < 2 ^ 44 }
+    ensures ppn { IsPpn result }
 {
     let span = span_of(level);
     Ppn(ppn_of(word) / span * span + vpn.0 % span)
