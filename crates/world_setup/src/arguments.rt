@@ -3,7 +3,7 @@ ghost use Rattle.std.specs.Prelude.{◌≡◌, min, option_map, IfOk};
 ghost use Rattle.std.specs.List.{list_all};
 ghost use Rattle.pl_io.specs.Numbers.{is_hex_digit};
 ghost use Rattle.pl_history.specs.Rules.{is_name_character, is_name};
-ghost use Rattle.world_setup.specs.Arguments.{within, number_of, short_of, enclave_of, budget_of, length_of, address_of, perms_of_text, bytes_of_hex, hex_bytes_of, name_of};
+ghost use Rattle.world_setup.specs.Arguments.{within, small_number_of, short_of, enclave_of, budget_of, length_of, address_of, perms_of_text, bytes_of_hex, hex_bytes_of, name_of};
 
 use hex::FromHexError;
 use pl_base::{EncNo, Listed, Memory, Perms, Va};
@@ -24,8 +24,8 @@ pub(crate) fn within(low: u32, high: u32, number: Option<u64>) -> Option<u32>
 }
 
 // A decimal number below 2^32.
-pub(crate) fn number_of(text: &[u8]) -> Option<u32>
-    ensures { result ≡ number_of text.now }
+pub(crate) fn small_number_of(text: &[u8]) -> Option<u32>
+    ensures { result ≡ small_number_of text.now }
 {
     within(0, u32::MAX, read_dec(text))
 }
@@ -34,7 +34,7 @@ pub(crate) fn number_of(text: &[u8]) -> Option<u32>
 pub(crate) fn short_of(text: &[u8]) -> Option<u8>
     ensures { result ≡ short_of text.now }
 {
-    let number = number_of(text)?;
+    let number = small_number_of(text)?;
     Some(number.min(255) as u8)
 }
 

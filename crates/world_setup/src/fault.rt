@@ -16,6 +16,9 @@ pub enum SetupFault {
     /// The first rule that fails, 1 to 24, and the position of its item, from 0.
     #[error("bad setup {rule} {item}")]
     Bad { rule: u8, item: u32 },
+    /// Rule 2 fails, for the cause that the parser gives.
+    #[error("bad setup 2 0: {0}")]
+    NotToml(toml::de::Error),
 }
 
 impl From<Memory> for SetupFault {

@@ -2,10 +2,10 @@
 ghost use Rattle.std.specs.Prelude.{◌≡◌, map};
 ghost use Rattle.std.specs.List.{list_all};
 ghost use Rattle.toml.specs.View.{view, table_view};
-ghost use Rattle.world_setup.specs.Walk.{has_only};
+ghost use Rattle.world_setup.specs.TomlData.{has_only};
 ghost use Rattle.world_setup.specs.Keys.{top_keys, hart_keys, page_keys, table_has_only, images_in, harts_in, pages_in, is_known_image, has_known_keys};
 
-use crate::walk::{has_only, items_at, items_of, member_of};
+use crate::toml_data::{has_only, items_at, items_of, member_of};
 use toml::{Table, Value};
 
 // The pages of an image.

@@ -3,11 +3,11 @@ ghost use Rattle.std.specs.Prelude.{◌≡◌, nat_lt, option_and_then, codes};
 ghost use Rattle.toml.specs.View.{table_view};
 ghost use Rattle.world_setup.specs.Answers.{Answers};
 ghost use Rattle.world_setup.specs.Numbers.{numbers_of, choice_of};
-ghost use Rattle.world_setup.specs.Walk.{text_at};
+ghost use Rattle.world_setup.specs.TomlData.{text_at};
 ghost use Rattle.pl_history.specs.Rules.{guarded_of, pages_of};
 
 use crate::fault::{SetupFault, some_of, unless};
-use crate::walk::{number_at, text_at};
+use crate::toml_data::{number_at, text_at};
 use pl_history::ChoiceName;
 use toml::Table;
 

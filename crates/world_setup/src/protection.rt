@@ -7,7 +7,7 @@ ghost use Rattle.world_setup.specs.Protection.{entry_above, entries_from, entrie
 use crate::entries::entry_of;
 use crate::fault::SetupFault;
 use crate::order::order_of;
-use crate::walk::member;
+use crate::toml_data::member;
 use pl_base::{Actor, Listed};
 use rv_pmp::Rule;
 use std::alloc::Global;
