@@ -16,7 +16,7 @@ use toml::de::Error;
 use world_core::first_unbuilt;
 use world_setup::{MOST_TEXT, SetupFault, read_setup};
 
-// Why no setup was read.
+/// Why no setup was read.
 #[derive(Clone, Copy)]
 pub(crate) enum Unread {
     Memory,
@@ -39,7 +39,7 @@ fn bad(rule: u8, item: u32) -> Unread
     }
 }
 
-// The setup that the source holds.
+/// The setup that the source holds.
 pub(crate) fn setup_from<S: Source>(alloc: Global, source: &mut S) -> Result<Setup, Unread>
     ensures obtains { Obtains setup_of (ends S.left S.faults source.old source.new) result }
     ensures later { Later (ends S.left S.faults source.old source.new) }
@@ -62,7 +62,7 @@ pub(crate) fn setup_from<S: Source>(alloc: Global, source: &mut S) -> Result<Set
     }
 }
 
-// The setup that the source holds, where it is built.
+/// The setup that the source holds, where it is built.
 pub(crate) fn runnable_from<S: Source>(alloc: Global, source: &mut S) -> Result<Setup, Unread>
     ensures obtains { Obtains runnable_of (ends S.left S.faults source.old source.new) result }
     ensures built { IfOk result (λ setup. first_unbuilt_of setup ≡ None) }
@@ -103,7 +103,7 @@ fn refuse<K: Sink>(sink: &mut K, rule: u8, item: u32, cause: Option<Error>) -> S
     }
 }
 
-// Ends a call that read no setup.
+/// Ends a call that read no setup.
 pub(crate) fn decline<K: Sink>(sink: &mut K, unread: Unread) -> Status
     ensures { Declines (ends K.written K.faults sink.old sink.new) unread result }
 {

@@ -321,7 +321,7 @@ fn all_images(alloc: Global, table: &Table) -> Result<Listed<Image>, Memory>
     gather_images(alloc, items_at(table, "image"))
 }
 
-// The images of a setup.
+/// The images of a setup.
 #[tactic(auto, using(crate::proofs::Chains::fault_on), unfolding(crate::specs::Images::images_of))]
 pub(crate) fn images_of(alloc: Global, table: &Table) -> Result<Listed<Image>, SetupFault>
     ensures images { Answers (images_of (table_view table.now)) result }

@@ -105,7 +105,7 @@ fn spread(alloc: Global, ranges: &[PageRange], count: usize) -> Result<Vec<u32>,
     Ok(pages)
 }
 
-// `-`, or ranges with commas between. A range is counted before it is spread.
+/// `-`, or ranges with commas between. A range is counted before it is spread.
 pub(crate) fn page_list_of(alloc: Global, text: &[u8]) -> Result<Option<Listed<u32>>, Memory>
     ensures { IfOk result (λ found. found ≡ page_list_of text.now) }
 {

@@ -20,14 +20,14 @@ use toml::{Table, Value};
 // The most lines of all scripts.
 const MOST_LINES: usize = 65_536;
 
-// The scripts of a setup.
+/// The scripts of a setup.
 #[derive(Drop)]
 pub(crate) struct Scripts {
     pub(crate) lines: Listed<Listed<Line>>,
     pub(crate) attacker: Listed<AttackLine>,
 }
 
-// How many lines the harts have.
+/// How many lines the harts have.
 pub(crate) fn count_lines(scripts: &[Listed<Line>]) -> usize
     requires { sum_by length scripts.now ≤ 65536 }
     ensures { result ≡ sum_by length scripts.now }
@@ -322,7 +322,7 @@ fn attack_script(alloc: Global, table: &Table) -> Result<Listed<AttackLine>, Mem
     Ok(lines)
 }
 
-// The scripts of a setup.
+/// The scripts of a setup.
 #[tactic(auto, using(crate::proofs::Chains::fault_on), unfolding(crate::specs::Scripts::scripts_of))]
 pub(crate) fn scripts_of(alloc: Global, harts: u8, table: &Table) -> Result<Scripts, SetupFault>
     ensures scripts { Answers (scripts_of harts (table_view table.now)) result }

@@ -8,14 +8,14 @@ ghost use Rattle.world_setup.specs.TomlData.{has_only, members_in, items_at, tex
 
 use toml::{Table, Value};
 
-// The value at a key.
+/// The value at a key.
 pub(crate) fn member<'a>(table: &'a Table, key: &str) -> Option<&'a Value>
     ensures { option_map (λ v. view v.now) result ≡ get_member key.now (table_view table.now) }
 {
     table.get(key)
 }
 
-// The value at a key of a table, and none of anything else.
+/// The value at a key of a table, and none of anything else.
 pub(crate) fn member_of<'a>(value: &'a Value, key: &str) -> Option<&'a Value>
     ensures { option_map (λ v. view v.now) result ≡ get_member key.now (members_in (view value.now)) }
 {
@@ -25,7 +25,7 @@ pub(crate) fn member_of<'a>(value: &'a Value, key: &str) -> Option<&'a Value>
     }
 }
 
-// The items of an array, and none of anything else.
+/// The items of an array, and none of anything else.
 #[tactic(auto, using(crate::proofs::ViewRules::views))]
 pub(crate) fn items_of<'a>(value: Option<&'a Value>) -> &'a [Value]
     ensures { map view result.now ≡ items_at (option_map (λ v. view v.now) value.entry) }
@@ -36,14 +36,14 @@ pub(crate) fn items_of<'a>(value: Option<&'a Value>) -> &'a [Value]
     }
 }
 
-// The items of the array at a key.
+/// The items of the array at a key.
 pub(crate) fn items_at<'a>(table: &'a Table, key: &str) -> &'a [Value]
     ensures { map view result.now ≡ items_at (get_member key.now (table_view table.now)) }
 {
     items_of(member(table, key))
 }
 
-// The text at a key.
+/// The text at a key.
 pub(crate) fn text_at<'a>(table: &'a Table, key: &str) -> Option<&'a str>
     ensures { option_map (λ t. t.now) result ≡ text_at key.now (table_view table.now) }
 {
@@ -53,7 +53,7 @@ pub(crate) fn text_at<'a>(table: &'a Table, key: &str) -> Option<&'a str>
     }
 }
 
-// The text at a key of a table, and none of anything else.
+/// The text at a key of a table, and none of anything else.
 pub(crate) fn text_of<'a>(value: &'a Value, key: &str) -> Option<&'a str>
     ensures { option_map (λ t. t.now) result ≡ text_at key.now (members_in (view value.now)) }
 {
@@ -63,7 +63,7 @@ pub(crate) fn text_of<'a>(value: &'a Value, key: &str) -> Option<&'a str>
     }
 }
 
-// The whole number at a key, where it is from `low` to `high`.
+/// The whole number at a key, where it is from `low` to `high`.
 pub(crate) fn number_at(table: &Table, key: &str, low: u8, high: u8) -> Option<u8>
     ensures { result ≡ number_in low high (get_member key.now (table_view table.now)) }
 {
@@ -81,7 +81,7 @@ fn is_among(key: &str, names: &[&str]) -> bool
     names.iter().any(|name| key == *name)
 }
 
-// Whether each key of the table is one of the names.
+/// Whether each key of the table is one of the names.
 pub(crate) fn has_only(table: &Table, names: &[&str]) -> bool
     ensures { result ≡ has_only (map (λ n. n.now) names.now) (table_view table.now) }
 {
@@ -105,12 +105,14 @@ fn is_text(value: &Value) -> bool
     matches!(value, Value::String(_))
 }
 
+/// Whether each value is a table.
 pub(crate) fn are_tables(values: &[Value]) -> bool
     ensures { result ≡ list_all (λ v. is_table (view v)) values.now }
 {
     values.iter().all(|value| is_table(value))
 }
 
+/// Whether each value is a string.
 pub(crate) fn are_texts(values: &[Value]) -> bool
     ensures { result ≡ list_all (λ v. is_text (view v)) values.now }
 {
