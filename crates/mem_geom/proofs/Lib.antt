@@ -1,3 +1,4 @@
+pub mod PartPlaces
 pub mod Parts
 pub mod Places
 pub mod Rows

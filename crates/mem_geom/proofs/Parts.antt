@@ -60,3 +60,10 @@ bytes_at-with_bytes_inside all from n at bytes fits inside =
     let size : n ≡ end + rest = omega arith in
     let kept : take rest (drop end far) ≡ drop end (take n far) = sym (ap (λ (k : ℕ). drop end (take k far)) size ∙ drop-take end rest far) in
     ap (take n) whole ∙ cut ∙ ap (λ (r : List ℕ). take at far ++ (bytes ++ r)) kept ∙ ap (λ (r : List ℕ). r ++ (bytes ++ drop end (take n far))) (sym (take-take at n far (omega arith)))
+
+-- a part of a part
+pub bytes_at-bytes_at : (all : List ℕ) (from n at m : ℕ) → at + m ≤ n → bytes_at (bytes_at all from n) at m ≡ bytes_at all (from + at) m
+bytes_at-bytes_at all from n at m inside =
+    let split : n ≡ at + (n - at) = omega arith in
+    ap (λ (k : ℕ). take m (drop at (take k (drop from all)))) split ∙ ap (take m) (drop-take at (n - at) (drop from all))
+    ∙ take-take m (n - at) (drop at (drop from all)) (omega arith) ∙ ap (take m) (drop-drop at from all)

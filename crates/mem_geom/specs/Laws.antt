@@ -1,10 +1,12 @@
 -- What holds of the layout as a whole.
-use Rattle.std.specs.Prelude.{◌≡◌, ◌≢◌, ℕ, ◌+◌, ◌<◌, ◌≤◌, ◌⊎◌, List, [], ◌∷◌, ◌++◌, length, map, ◌-◌}
+use Rattle.std.specs.Prelude.{◌≡◌, ◌≢◌, ℕ, ◌+◌, ◌-◌, ◌*◌, ◌/◌, ◌%◌, ◌<◌, ◌≤◌, ◌⊎◌, true, false, List, [], ◌∷◌, ◌++◌, length, map}
 use Rattle.std.specs.List.{range_with_len}
 use Rattle.pl_base.specs.declared.place.Place.{Place}
-use Rattle.pl_base.specs.declared.place.Place.TheVariants.{Node}
-use Rattle.pl_base.specs.Bytes.{with_bytes}
+use Rattle.pl_base.specs.declared.place.Place.TheVariants.{Block, Node}
+use Rattle.pl_base.specs.Bytes.{bytes_at, with_bytes}
 use Rattle.mem_geom.specs.Layout.{Exists, place_start, place_end, place_length, place_bytes, nodes_start, memory_end, memory_size}
+use Rattle.mem_geom.specs.Parts.{page_bytes, level1_bytes}
+use Rattle.mem_geom.specs.Ranges.{overlaps_place}
 
 -- one of the two ends before the other begins
 abbrev pub AreApart : ℕ → Place → Place → Type 0
@@ -53,3 +55,22 @@ abbrev pub WritesChangeOnePlace : Type 0
 WritesChangeOnePlace = (zones : ℕ) (place : Place) (memory bytes : List ℕ) → Exists zones place → length memory ≡ memory_size zones
     → length bytes ≡ place_length place
     → ChangesOnePlace zones place memory bytes (with_bytes memory (place_start zones place - 0x80000000) bytes)
+
+-- bytes written over any range: bytes and places outside it stay, and a place whose bytes changed meets it
+pub record ChangesRange (zones address : ℕ) (old bytes new : List ℕ) : Type 0 where
+  pub size : length new ≡ length old
+  pub changed : bytes_at new (address - 0x80000000) (length bytes) ≡ bytes
+  pub before : (from count : ℕ) → from + count ≤ address - 0x80000000 → bytes_at new from count ≡ bytes_at old from count
+  pub after : (from count : ℕ) → address - 0x80000000 + length bytes ≤ from → bytes_at new from count ≡ bytes_at old from count
+  pub others : (place : Place) → Exists zones place → overlaps_place zones address (length bytes) place ≡ false → place_bytes zones new place ≡ place_bytes zones old place
+  pub met : (place : Place) → Exists zones place → place_bytes zones new place ≢ place_bytes zones old place → overlaps_place zones address (length bytes) place ≡ true
+
+abbrev pub WritesChangeRange : Type 0
+WritesChangeRange = (zones address : ℕ) (memory bytes : List ℕ) → length memory ≡ memory_size zones → 0x80000000 ≤ address → address + length bytes ≤ memory_end zones
+    → ChangesRange zones address memory bytes (with_bytes memory (address - 0x80000000) bytes)
+
+-- a block is 64 bytes of its page, and the eight nodes over a page's blocks are pieces of one list
+pub record PartsArePlaces : Type 0 where
+  pub blocks : (zones page block : ℕ) (memory : List ℕ) → block < 64 → place_bytes zones memory (Block page block) ≡ bytes_at (page_bytes memory page) (64 * block) 64
+  pub level1 : (zones page k : ℕ) (memory : List ℕ) → k < 8
+      → place_bytes zones memory (Node 1 (page / 64) (8 * (page % 64) + k)) ≡ bytes_at (level1_bytes zones memory page) (256 * k) 256

@@ -2,7 +2,7 @@ ghost use Rattle.std.specs.Prelude.{◌≡◌, ◌+◌, ◌-◌, ◌≤◌, leng
 ghost use Rattle.pl_base.specs.Bytes.{bytes_at, with_bytes};
 ghost use Rattle.mem_geom.specs.Layout.{memory_size};
 
-use crate::layout::{FIRST_ADDRESS, TABLE_BYTES, ZONE_BYTES, ZONE_NODE_BYTES};
+use crate::layout::{MEMORY_START, TABLE_BYTES, ZONE_BYTES, ZONE_NODE_BYTES};
 use pl_base::Memory;
 use std::alloc::Global;
 use std::marker::Model;
@@ -39,7 +39,7 @@ impl Dram {
     pub fn end(&self) -> u64
         ensures { result ≡ 0x80000000 + length self.now }
     {
-        FIRST_ADDRESS + self.bytes.len() as u64
+        MEMORY_START + self.bytes.len() as u64
     }
 
     /// Reads the bytes from an address on.
@@ -48,7 +48,7 @@ impl Dram {
         requires to { pa + length into.old ≤ 0x80000000 + length self.now }
         ensures { into.new ≡ bytes_at self.now (pa - 0x80000000) (length into.old) }
     {
-        let at = (pa - FIRST_ADDRESS) as usize;
+        let at = (pa - MEMORY_START) as usize;
         into.copy_from_slice(&self.bytes[at..at + into.len()]);
     }
 
@@ -59,7 +59,7 @@ impl Dram {
         ensures bytes { self.new ≡ with_bytes self.old (pa - 0x80000000) bytes.now }
         ensures size { length self.new ≡ length self.old }
     {
-        let at = (pa - FIRST_ADDRESS) as usize;
+        let at = (pa - MEMORY_START) as usize;
         self.bytes[at..at + bytes.len()].copy_from_slice(bytes);
     }
 }

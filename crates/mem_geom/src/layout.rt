@@ -1,16 +1,13 @@
 ghost use Rattle.std.specs.Prelude.{◌≡◌, ◌+◌, ◌≤◌, ◌<◌};
 ghost use Rattle.mem_geom.specs.Layout.{Exists, place_start, place_length, memory_end, page_start, nodes_start, nodes_of_level, nodes_before_level, root_nodes_of_level, root_nodes_before_level};
 
-use pl_base::Place;
+use pl_base::{PAGE_BYTES, Place};
 
 /// The address of the first byte of off-chip memory.
-pub const FIRST_ADDRESS: u64 = 0x8000_0000;
+pub const MEMORY_START: u64 = 0x8000_0000;
 
 /// The bytes of a block.
 pub(crate) const BLOCK_BYTES: u32 = 64;
-
-/// The bytes of a page.
-pub(crate) const PAGE_BYTES: u64 = 4096;
 
 /// The bytes of a node: eight digests.
 pub(crate) const NODE_BYTES: u32 = 256;
@@ -48,17 +45,25 @@ pub fn place_range(zones: u8, place: &Place) -> (u64, u32)
     }
 }
 
-fn page_start(page: u32) -> u64
+/// The address of a page's first byte.
+pub fn page_start(page: u32) -> u64
     ensures { result ≡ page_start page }
 {
-    FIRST_ADDRESS + PAGE_BYTES * u64::from(page)
+    MEMORY_START + PAGE_BYTES * u64::from(page)
 }
 
 /// The address of a zone's first node, or of the root table for a zone past the last.
 fn nodes_start(zones: u8, zone: u8) -> u64
     ensures { result ≡ nodes_start zones zone }
 {
-    FIRST_ADDRESS + ZONE_BYTES * u64::from(zones) + ZONE_NODE_BYTES * u64::from(zone)
+    MEMORY_START + ZONE_BYTES * u64::from(zones) + ZONE_NODE_BYTES * u64::from(zone)
+}
+
+/// The address after the last byte of off-chip memory, where there are so many zones.
+pub fn memory_end(zones: u8) -> u64
+    ensures { result ≡ memory_end zones }
+{
+    nodes_start(zones, zones) + TABLE_BYTES
 }
 
 /// The number of a node among those of its zone.

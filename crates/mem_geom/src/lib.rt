@@ -10,9 +10,10 @@ mod layout;
 
 pub use dram::Dram;
 pub use laws::{
-    bytes_have_one_place, nodes_follow_one_another, ranges_are_apart, writes_change_one_place,
+    bytes_have_one_place, nodes_follow_one_another, parts_are_places, ranges_are_apart,
+    writes_change_one_place, writes_change_range,
 };
-pub use layout::{FIRST_ADDRESS, place_range};
+pub use layout::{MEMORY_START, memory_end, page_start, place_range};
 
 #[cfg(test)]
 mod tests;

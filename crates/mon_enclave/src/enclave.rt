@@ -2,25 +2,17 @@
 ghost use Rattle.std.specs.Prelude.{◌≡◌, ◌≤◌, ◌+◌, [], ◌∷◌, ◌++◌, length, map, IfOk, OnOk, OnErr, OnSome, IfNone};
 ghost use Rattle.std.specs.Bool.{OnTrue, OnFalse};
 ghost use Rattle.std.specs.Result.{result_err};
-ghost use Rattle.pl_base.specs.States.{is_wordless, state_left};
+ghost use Rattle.pl_base.specs.States.{state_left};
 ghost use Rattle.rv_alone.specs.Flat.{start_registers};
 
 use crate::Bounded;
 use mon_image::Image;
-use pl_base::{EncNo, HartNo, No, State, Why};
-use rv_alone::Context;
+use pl_base::{EncNo, HartNo, IMAGE_START, No, PAGE_BYTES, State, Why};
+use rv_alone::{Context, MOST_WORDS};
 use std::alloc::{AllocError, Global};
 
 // How many pages and how many spares an enclave has at most.
 const MOST_PAGES: usize = 256;
-
-// How many words may be sent to an enclave, and sent out by it.
-const MOST_WORDS: usize = 4096;
-
-// Page 0 of an image stands here.
-const FIRST_ADDRESS: u64 = 0x10000;
-
-const PAGE_SIZE: u64 = 4096;
 
 /// A page of an enclave, by its number: its own, or one of the number that it was forked from.
 #[derive(Clone, Copy, PartialEq, Eq, Debug)]
@@ -74,35 +66,13 @@ pub struct Enclave {
     pub parent: Option<EncNo>,
 }
 
-// Whether no word goes in or out in this state.
-fn is_wordless(state: State) -> bool
-    ensures { result ≡ is_wordless state }
-{
-    matches!(
-        state,
-        State::Free | State::Sealed | State::Building | State::Dying
-    )
-}
-
-// The state in which a run leaves its enclave.
-fn state_left(why: Why) -> State
-    ensures { result ≡ state_left why }
-{
-    match why {
-        Why::Ended(_) => State::Ended,
-        Why::Trapped { .. } => State::Trapped,
-        Why::Fault(_) => State::Faulted,
-        _ => State::Paused,
-    }
-}
-
 // The registers at the start of an image of so many pages.
 fn start_registers(pages: usize) -> [u64; 32]
     requires { pages ≤ 256 }
     ensures { result ≡ start_registers pages }
 {
     let mut regs = [0; 32];
-    regs[2] = FIRST_ADDRESS + PAGE_SIZE * pages as u64;
+    regs[2] = IMAGE_START + PAGE_BYTES * pages as u64;
     regs
 }
 
@@ -152,7 +122,7 @@ impl Enclave {
         ensures err { OnErr result (self.new ≡ self.old) }
         ensures kept { IsEnclave self.new }
     {
-        if is_wordless(self.state) {
+        if self.state.is_wordless() {
             return Err(No::NoEnclave);
         }
         if self.sent.len() == MOST_WORDS {
@@ -170,7 +140,7 @@ impl Enclave {
         ensures err { OnErr result (self.new ≡ self.old) }
         ensures kept { IsEnclave self.new }
     {
-        if is_wordless(self.state) {
+        if self.state.is_wordless() {
             return Err(No::NoEnclave);
         }
         if self.taken == self.shown {
@@ -186,7 +156,7 @@ impl Enclave {
         ensures now { self.new ≡ record self.old { state = state_left why; shown = length self.old.out } }
         ensures kept { IsEnclave self.new }
     {
-        self.state = state_left(why);
+        self.state = why.state_left();
         self.shown = self.out.len() as u32;
     }
 

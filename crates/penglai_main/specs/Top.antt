@@ -48,7 +48,7 @@ pub data RunEnd : Type 0 where
 
 -- what a history shows where its run ends so; the world that is built ends in the first way alone
 abbrev pub EndsBy : RunEnd → SetupParts → HistoryData → Type 0
-EndsBy done setup history = AllAnswered setup history.entries
+EndsBy done setup history = AllAnswered setup history.bytes history.entries
 EndsBy collision setup history = ⊥
 EndsBy stuck setup history = ⊥
 
@@ -57,7 +57,7 @@ EndsBy stuck setup history = ⊥
 pub record RunFacts (end : RunEnd) (setup : SetupParts) (history : HistoryData) : Type 0 where
   pub setup_rules : IsSetup setup
   pub history_rules : IsHistory history
-  pub legal : Legal setup history.entries
+  pub legal : Legal setup history.bytes history.entries
   pub ends : EndsBy end setup history
 
 -- a whole run: the source was read to its end and is a setup; the text is the history of its run, and its report

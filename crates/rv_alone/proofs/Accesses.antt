@@ -3,22 +3,23 @@ use Rattle.std.proofs.Common.{◌≡◌, ◌<◌, ◌+◌, ◌*◌, ◌/◌, ◌
 use Rattle.std.proofs.lemmas.Bool.{cases_Bool, eqb-true}
 use Rattle.rv_insn.specs.declared.insn.Insn.{Insn}
 use Rattle.rv_insn.specs.declared.insn.Insn.TheVariants.{Lui, Auipc, Jal, Jalr, Branch, Load, Store, OpImm, Op, Fence, Ecall, Ebreak}
-use Rattle.rv_insn.specs.Table.{IsWellFormed, is_width}
+use Rattle.pl_base.specs.Width.{is_width}
+use Rattle.rv_insn.specs.Table.{IsWellFormed}
 use Rattle.rv_alu.specs.Values.{is_taken}
 use Rattle.rv_alone.specs.declared.step.Act.TheVariants.{Set, Trap}
 use Rattle.rv_alone.specs.declared.step.Context.{Context}
-use Rattle.rv_alone.specs.Effect.{IsAccess, advanced, effect_of, goes_to, loads, register, stores, sum_of, with_register}
+use Rattle.rv_alone.specs.Effect.{IsAccess, advanced, effect_of, goes_to, load_act, register, store_act, sum_of, with_register}
 
 no_access : (context : Context) (target : ℕ) → IsAccess (goes_to context target)
 no_access context target = elim (eqb (target / 2 % 2) 1) as (λ t. IsAccess (cond t (Trap 0 target) (Set (record context { pc = target })))) [ true ↦ tt | false ↦ tt ]
 
-of_load : (address width : ℕ) (is_signed : Bool) (rd : ℕ) → is_width width ≡ true → rd < 32 → IsAccess (loads address width is_signed rd)
+of_load : (address width : ℕ) (is_signed : Bool) (rd : ℕ) → is_width width ≡ true → rd < 32 → IsAccess (load_act address width is_signed rd)
 of_load address width is_signed rd w r = elim (cases_Bool (eqb (address % width) 0)) [
   | inl whole ↦ rw whole (w, eqb-true (address % width) 0 whole, r)
   | inr part ↦ rw part tt
 ]
 
-of_store : (address width value : ℕ) → is_width width ≡ true → IsAccess (stores address width value)
+of_store : (address width value : ℕ) → is_width width ≡ true → IsAccess (store_act address width value)
 of_store address width value w = elim (cases_Bool (eqb (address % width) 0)) [
   | inl whole ↦ rw whole (w, eqb-true (address % width) 0 whole)
   | inr part ↦ rw part tt

@@ -10,12 +10,13 @@ use Rattle.std.proofs.lemmas.Option.{unwrap_or-slice_get}
 use Rattle.std.proofs.lemmas.Bool.{cases_Bool, eqb-false, or_parts, false≢true}
 use Rattle.pl_base.specs.declared.access.Kind.{Kind}
 use Rattle.pl_base.specs.declared.access.Kind.TheVariants as kind
+use Rattle.pl_base.specs.declared.page.TheConstants.{IMAGE_START}
 use Rattle.pl_base.specs.declared.perms.Perms.{Perms}
 use Rattle.pl_base.specs.Perms.{grants}
 use Rattle.rv_alone.specs.declared.step.Act.{Act}
 use Rattle.rv_alone.specs.declared.step.Act.TheVariants.{Set, Load, Store, Call, Trap}
 use Rattle.rv_alone.specs.Effect.{act_of, advanced, loaded}
-use Rattle.rv_alone.specs.Flat.{Image, Flat, Page, Status, on, ended, fetched, read, permitted, first_address, page_at, page_number, with_number, start_of}
+use Rattle.rv_alone.specs.Flat.{Image, Flat, Page, Status, on, ended, fetched, read, permitted, page_at, page_number, with_number, start_of}
 use Rattle.rv_alone.specs.Alone.{Outcome, next, trap, wait, full, next_of, context_of, with_context, acts, loads, stores, calls, receives, sends, exits, runs, advance_by, alone, page_of_act, page_written, with_page, written_pages}
 use Rattle.rv_alone.proofs.Later.{sent_later}
 use Rattle.rv_alone.specs.Laws.{PermissionsStay, UnwrittenStay, WrittenOnce, WrittenWritable}
@@ -44,7 +45,7 @@ placed false o page e = cc
 permitted_is : (k : Kind) (pages : List Page) (address : ℕ) (page : Page) → permitted k pages address ≡ Some page → (slice_get pages (page_number address) ≡ Some page) × (grants page.perms k ≡ true)
 permitted_is k pages address page e =
     let parts = granted k (page_at pages address) page e in
-    (placed (leb first_address address) (slice_get pages (page_number address)) page parts.0, parts.1)
+    (placed (leb IMAGE_START address) (slice_get pages (page_number address)) page parts.0, parts.1)
 
 loaded_pages : (a b : Flat) (address width : ℕ) (is_signed : Bool) (rd : ℕ) (raw : Option ℕ) → next_of (loads a address width is_signed rd raw) ≡ Some b → b.pages ≡ a.pages
 loaded_pages a b address width is_signed rd None e = cc

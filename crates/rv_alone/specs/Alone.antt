@@ -22,7 +22,7 @@ context_of a = record { regs = a.regs; pc = a.pc }
 abbrev pub with_context : Flat → Context → Flat
 with_context a context = record a { regs = context.regs; pc = context.pc }
 
--- how many words an enclave may send out
+-- how many words may be sent to an enclave, and sent out by it
 abbrev pub most_words : ℕ
 most_words = 4096
 

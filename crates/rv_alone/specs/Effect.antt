@@ -2,9 +2,10 @@
 -- (RISC-V Unprivileged ISA, RV64I and the M extension; the causes of traps are the Privileged Architecture's).
 use Rattle.std.specs.Prelude.{◌≡◌, ℕ, ℤ, pos, ◌+ℤ◌, ◌+◌, ◌*◌, ◌/◌, ◌%◌, ◌^◌, ◌<◌, ◌==◌, Bool, if◌then◌else◌, List, slice_index, slice_set, IsTrue}
 use Rattle.std.specs.Option.{option_map_or}
+use Rattle.pl_base.specs.Width.{is_width}
 use Rattle.rv_insn.specs.declared.insn.Insn.{Insn}
 use Rattle.rv_insn.specs.declared.insn.Insn.TheVariants as insn
-use Rattle.rv_insn.specs.Table.{instruction_of, is_width}
+use Rattle.rv_insn.specs.Table.{instruction_of}
 use Rattle.rv_insn.specs.Word.{signed}
 use Rattle.rv_alu.specs.Values.{wrapped, alu_value, is_taken}
 use Rattle.rv_alone.specs.declared.step.Act.{Act}
@@ -39,12 +40,12 @@ goes_to context target = if target / 2 % 2 == 1 then Trap 0 target else Set (rec
 abbrev pub links : Context → ℕ → ℕ → Act
 links context rd target = goes_to (with_register context rd ((context.pc + 4) % 2 ^ 64)) target
 
--- a load of an address that is no multiple of its width traps with cause 4, a store with cause 6
-abbrev pub loads : ℕ → ℕ → Bool → ℕ → Act
-loads address width is_signed rd = if address % width == 0 then Load address width is_signed rd else Trap 4 address
+-- a load or store, which traps at an address that is no multiple of its width: with cause 4 or 6
+abbrev pub load_act : ℕ → ℕ → Bool → ℕ → Act
+load_act address width is_signed rd = if address % width == 0 then Load address width is_signed rd else Trap 4 address
 
-abbrev pub stores : ℕ → ℕ → ℕ → Act
-stores address width value = if address % width == 0 then Store address width value else Trap 6 address
+abbrev pub store_act : ℕ → ℕ → ℕ → Act
+store_act address width value = if address % width == 0 then Store address width value else Trap 6 address
 
 -- the effect of an instruction; every ECALL is a call with a7 and a0
 abbrev pub effect_of : Context → Insn → Act
@@ -54,8 +55,8 @@ effect_of context (insn.Jal rd offset) = links context rd (sum_of context.pc off
 effect_of context (insn.Jalr rd rs1 imm) = links context rd (sum_of (register context.regs rs1) imm / 2 * 2)
 effect_of context (insn.Branch cond rs1 rs2 offset) =
     if is_taken cond (register context.regs rs1) (register context.regs rs2) then goes_to context (sum_of context.pc offset) else Set (advanced context)
-effect_of context (insn.Load width is_signed rd rs1 imm) = loads (sum_of (register context.regs rs1) imm) width is_signed rd
-effect_of context (insn.Store width rs1 rs2 imm) = stores (sum_of (register context.regs rs1) imm) width (register context.regs rs2)
+effect_of context (insn.Load width is_signed rd rs1 imm) = load_act (sum_of (register context.regs rs1) imm) width is_signed rd
+effect_of context (insn.Store width rs1 rs2 imm) = store_act (sum_of (register context.regs rs1) imm) width (register context.regs rs2)
 effect_of context (insn.OpImm op rd rs1 imm) = sets context rd (alu_value op (register context.regs rs1) (wrapped 64 imm))
 effect_of context (insn.Op op rd rs1 rs2) = sets context rd (alu_value op (register context.regs rs1) (register context.regs rs2))
 effect_of context (insn.Fence high rd) = Set (advanced context)

@@ -1,7 +1,9 @@
 -- An enclave image, and the flat machine that runs it alone.
-use Rattle.std.specs.Prelude.{ℕ, ◌+◌, ◌-◌, ◌*◌, ◌/◌, ◌%◌, nat_le, if◌then◌else◌, List, [], ◌++◌, length, take, drop, replicate, slice_get, slice_set, Option, Some, None, option_and_then}
+use Rattle.std.specs.Prelude.{ℕ, ◌+◌, ◌-◌, ◌*◌, ◌/◌, ◌%◌, nat_le, if◌then◌else◌, List, [], length, replicate, slice_get, slice_set, Option, Some, None, option_and_then}
 use Rattle.std.specs.Option.{option_map}
 use Rattle.byteorder.specs.Endian.{little_number, little_bytes}
+use Rattle.pl_base.specs.Bytes.{bytes_at, with_bytes}
+use Rattle.pl_base.specs.declared.page.TheConstants.{IMAGE_START}
 use Rattle.pl_base.specs.declared.perms.Perms.{Perms}
 use Rattle.pl_base.specs.declared.access.Kind.{Kind}
 use Rattle.pl_base.specs.declared.access.Kind.TheVariants.{Fetch, Load, Store}
@@ -30,13 +32,9 @@ pub record Flat : Type 0 where
   pub out : List ℕ
   pub status : Status
 
--- page i of an image stands at 0x10000 + 4096·i
-abbrev pub first_address : ℕ
-first_address = 0x10000
-
--- x2 is the end of the image, and each other register 0
+-- page i of an image stands at IMAGE_START + 4096·i, and x2 is the end of the image; each other register is 0
 abbrev pub start_registers : ℕ → List ℕ
-start_registers pages = slice_set (replicate 32 0) 2 (first_address + 4096 * pages)
+start_registers pages = slice_set (replicate 32 0) 2 (IMAGE_START + 4096 * pages)
 
 abbrev pub start_of : Image → Flat
 start_of image = record {
@@ -50,10 +48,10 @@ start_of image = record {
 
 -- the number of the page of an address, and its page
 abbrev pub page_number : ℕ → ℕ
-page_number address = (address - first_address) / 4096
+page_number address = (address - IMAGE_START) / 4096
 
 abbrev pub page_at : List Page → ℕ → Option Page
-page_at pages address = if nat_le first_address address then slice_get pages (page_number address) else None
+page_at pages address = if nat_le IMAGE_START address then slice_get pages (page_number address) else None
 
 -- the page of an address, where its permissions let an access of the kind through
 abbrev pub permitted : Kind → List Page → ℕ → Option Page
@@ -61,13 +59,11 @@ permitted kind pages address = option_and_then (λ (page : Page). if grants page
 
 -- the number in so many bytes of its page from an address on, little-endian
 abbrev pub number_in : ℕ → ℕ → Page → ℕ
-number_in width address page = little_number width (drop (address % 4096) page.bytes)
+number_in width address page = little_number width (bytes_at page.bytes (address % 4096) width)
 
 -- the page with the lowest bytes of a value there
 abbrev pub with_number : ℕ → ℕ → ℕ → Page → Page
-with_number width address value page =
-    let offset = address % 4096 in
-    record page { bytes = take offset page.bytes ++ little_bytes width value ++ drop (offset + width) page.bytes }
+with_number width address value page = record page { bytes = with_bytes page.bytes (address % 4096) (little_bytes width value) }
 
 -- the word of 32 bits that is fetched from an address
 abbrev pub fetched : List Page → ℕ → Option ℕ

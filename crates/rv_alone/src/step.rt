@@ -1,7 +1,8 @@
 ghost use Rattle.std.specs.Prelude.{◌≡◌, ◌<◌, ◌*◌, ◌/◌, ◌%◌, IsTrue};
-ghost use Rattle.rv_insn.specs.Table.{IsWellFormed, is_width};
+ghost use Rattle.pl_base.specs.Width.{is_width};
+ghost use Rattle.rv_insn.specs.Table.{IsWellFormed};
 ghost use Rattle.rv_alu.specs.Values.{wrapped};
-ghost use Rattle.rv_alone.specs.Effect.{IsAligned, IsAccess, act_of, advanced, effect_of, goes_to, links, loaded, loaded_value, loads, register, sets, stores, sum_of, with_register};
+ghost use Rattle.rv_alone.specs.Effect.{IsAligned, IsAccess, act_of, advanced, effect_of, goes_to, links, loaded, loaded_value, load_act, register, sets, store_act, sum_of, with_register};
 
 use rv_alu::{alu, taken};
 use rv_insn::{Insn, decode};
@@ -130,7 +131,7 @@ fn even(target: u64) -> u64
 
 fn load(address: u64, width: u8, signed: bool, rd: u8) -> Act
     requires { IsTrue (is_width width) }
-    ensures { result ≡ loads address width signed rd }
+    ensures { result ≡ load_act address width signed rd }
 {
     if address % u64::from(width) != 0 {
         return Act::Trap {
@@ -148,7 +149,7 @@ fn load(address: u64, width: u8, signed: bool, rd: u8) -> Act
 
 fn store(address: u64, width: u8, value: u64) -> Act
     requires { IsTrue (is_width width) }
-    ensures { result ≡ stores address width value }
+    ensures { result ≡ store_act address width value }
 {
     if address % u64::from(width) != 0 {
         return Act::Trap {

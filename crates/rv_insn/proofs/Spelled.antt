@@ -11,7 +11,8 @@ use Rattle.rv_insn.specs.declared.insn.Cond.TheVariants.{Beq, Bne, Blt, Bge, Blt
 use Rattle.rv_insn.specs.declared.insn.AluOp.TheVariants.{Add, Sub, Sll, Slt, Sltu, Xor, Srl, Sra, Or, And, Mul, Mulh, Mulhsu, Mulhu, Div, Divu, Rem, Remu, Addw, Subw, Sllw, Srlw, Sraw, Mulw, Divw, Divuw, Remw, Remuw}
 use Rattle.rv_insn.specs.declared.encoding.OpCode.{OpCode}
 use Rattle.rv_insn.specs.Word.{bits, opcode, rd, funct3, rs1, rs2, funct7, i_immediate, s_immediate, b_immediate, u_immediate, j_immediate}
-use Rattle.rv_insn.specs.Table.{Row, fits, table, u_type, j_type, i_type, b_type, s_type, r_type, shift_type, shift_w_type, fence_type, whole_word, instruction_of, is_width, IsWellFormed}
+use Rattle.rv_insn.specs.Table.{Row, fits, table, u_type, j_type, i_type, b_type, s_type, r_type, shift_type, shift_w_type, fence_type, whole_word, instruction_of, IsWellFormed}
+use Rattle.pl_base.specs.Width.{is_width}
 use Rattle.rv_insn.specs.Codes.{IsBranchCode, IsLoadCode, IsStoreCode, IsRegisterCode, IsImmediateCode, IsOpCode}
 use Rattle.rv_insn.proofs.Apart.{some_row}
 use Rattle.rv_insn.proofs.Immediates.{i_bits, b_even, j_even}

@@ -1,3 +1,4 @@
 pub mod Codes
 pub mod Table
 pub mod Word
+pub use Rattle.pl_base.specs.Width

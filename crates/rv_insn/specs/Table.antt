@@ -1,7 +1,8 @@
 -- The instructions, each with its encoding (RISC-V Unprivileged ISA, "RV32/64G Instruction Set Listings": RV32I, RV64I, RV32M, RV64M).
-use Rattle.std.specs.Prelude.{ℕ, ◌<◌, Some, ◌/◌, ◌%◌, ◌^◌, Bool, true, false, ◌&&◌, ◌==◌, List, [], ◌∷◌, Option, find, IsTrue, Contains, ⊤, ◌||◌, unsigned_abs, ◌≡◌, ℤ, pos}
+use Rattle.std.specs.Prelude.{ℕ, ◌<◌, Some, ◌/◌, ◌%◌, ◌^◌, Bool, true, false, ◌&&◌, ◌==◌, List, [], ◌∷◌, Option, find, IsTrue, Contains, ⊤, unsigned_abs, ◌≡◌, ℤ, pos}
 use Rattle.std.specs.List.{list_all}
 use Rattle.std.specs.Option.{option_map}
+use Rattle.pl_base.specs.Width.{is_width}
 use Rattle.rv_insn.specs.Word.{bits, opcode, rd, rs1, rs2, i_immediate, s_immediate, b_immediate, u_immediate, j_immediate}
 use Rattle.rv_insn.specs.declared.insn.Insn.{Insn}
 use Rattle.rv_insn.specs.declared.insn.Insn.TheVariants.{Lui, Auipc, Jal, Jalr, Branch, Load, Store, OpImm, Op, Fence, Ecall, Ebreak}
@@ -189,10 +190,6 @@ abbrev pub IsValid : Insn → Type 0
 IsValid insn = (word : ℕ) × (word < 2 ^ 32) × (instruction_of word ≡ Some insn)
 
 -- ---- what an instruction of the table has
-
--- one, two, four or eight bytes
-abbrev pub is_width : ℕ → Bool
-is_width width = width == 1 || (width == 2 || (width == 4 || width == 8))
 
 abbrev pub IsEven : ℤ → Type 0
 IsEven z = unsigned_abs z % 2 ≡ 0

@@ -6,7 +6,7 @@ use Rattle.std.proofs.lemmas.List.{length_push, length-drop}
 use Rattle.std.proofs.lemmas.List.Elements.{All-drop, All-filter, All-push}
 use Rattle.std.proofs.lemmas.List.Kept.{AllPairs-filter}
 use Rattle.std.proofs.lemmas.List.Quantifiers.{all_pairs_push, all_pairs_remove}
-use Rattle.rv_tlb.specs.Tlb.{is_of, Differ, IsSmall, IsTlb}
+use Rattle.rv_tlb.specs.Tlb.{is_of, Differ, HasPpn, IsTlb}
 use Rattle.rv_tlb.specs.declared.tlb.TlbEntry.{TlbEntry}
 
 first_fails : {X : Type 0} (p : X → Bool) (x : X) (xs : List X) → IsNone (find p (x ∷ xs)) → p x ≡ false
@@ -26,25 +26,25 @@ pub IsTlb-filter : (p : TlbEntry → Bool) (entries : List TlbEntry) → IsTlb e
 IsTlb-filter p entries tlb room = record {
   room = room;
   apart = AllPairs-filter Differ p entries tlb.apart;
-  small = All-filter p IsSmall entries tlb.small;
+  ppns = All-filter p HasPpn entries tlb.ppns;
 }
 
 pub IsTlb-drop : (entries : List TlbEntry) → IsTlb entries → 0 < length entries → IsTlb (drop 1 entries)
 IsTlb-drop entries tlb some = record {
   room = omega (arith, length-drop 1 entries, tlb.room);
   apart = all_pairs_remove Differ entries 0 some tlb.apart;
-  small = All-drop IsSmall 1 entries tlb.small;
+  ppns = All-drop HasPpn 1 entries tlb.ppns;
 }
 
 differ_from : (a b : TlbEntry) → is_of b.space b.vpn a ≡ false → Differ a b
 differ_from a b other = grind (arith, nat_tests)
 
-pub IsTlb-push : (entries : List TlbEntry) (entry : TlbEntry) → IsTlb entries → length entries < 16 → IsSmall entry
+pub IsTlb-push : (entries : List TlbEntry) (entry : TlbEntry) → IsTlb entries → length entries < 16 → HasPpn entry
     → IsNone (find (is_of entry.space entry.vpn) entries) → IsTlb (entries ++ entry ∷ [])
-IsTlb-push entries entry tlb room small none = record {
+IsTlb-push entries entry tlb room ppn none = record {
   room = omega (arith, length_push entries entry);
   apart = all_pairs_push Differ entries entry tlb.apart (λ k d h. differ_from (get_or entries k d) entry (fails_where_none (is_of entry.space entry.vpn) entries none k d h));
-  small = All-push IsSmall entries entry tlb.small small;
+  ppns = All-push HasPpn entries entry tlb.ppns ppn;
 }
 
 -- the oldest entry's going leaves no other entry in its place

@@ -1,5 +1,6 @@
 -- A hart's translations as a list, the oldest first.
-use Rattle.std.specs.Prelude.{◌^◌, ◌<◌, ◌≤◌, Bool, IsFalse, All, AllPairs, ◌==◌, ◌&&◌, List, length}
+use Rattle.std.specs.Prelude.{◌≤◌, Bool, IsFalse, All, AllPairs, ◌==◌, ◌&&◌, List, length}
+use Rattle.pl_base.specs.Address.{IsPpn}
 use Rattle.pl_base.specs.declared.address.Vpn.{Vpn}
 use Rattle.pl_base.specs.declared.number.Space.{Space}
 use Rattle.rv_tlb.specs.declared.tlb.TlbEntry.{TlbEntry}
@@ -16,12 +17,12 @@ is_of space vpn entry = is_in space entry && entry.vpn.0 == vpn.0
 abbrev pub Differ : TlbEntry → TlbEntry → Type 0
 Differ a b = IsFalse (is_of a.space a.vpn b)
 
--- the physical page number has 44 bits
-abbrev pub IsSmall : TlbEntry → Type 0
-IsSmall entry = entry.ppn.0 < 2 ^ 44
+-- the entry's physical page number is one that a table word can hold
+abbrev pub HasPpn : TlbEntry → Type 0
+HasPpn entry = IsPpn entry.ppn
 
--- what a TLB holds: at most sixteen entries, no two of one space and page, each with a physical page number of 44 bits
+-- what a TLB holds: at most sixteen entries, no two of one space and page, each with a page number that a table word can hold
 pub record IsTlb (entries : List TlbEntry) : Type 0 where
   pub room : length entries ≤ 16
   pub apart : AllPairs Differ entries
-  pub small : All IsSmall entries
+  pub ppns : All HasPpn entries

@@ -1,4 +1,4 @@
-ghost use Rattle.std.specs.Prelude.{◌≡◌, ◌<◌, ◌^◌, [], ◌∷◌, ◌++◌, drop, find, filter, not, length, IsNone, IfSome};
+ghost use Rattle.std.specs.Prelude.{◌≡◌, ◌<◌, [], ◌∷◌, ◌++◌, drop, find, filter, not, length, IsNone, IfSome};
 
 use arrayvec::ArrayVec;
 use pl_base::{Perms, Ppn, Space, Vpn};
@@ -37,7 +37,7 @@ impl Model for Tlb {
 }
 
 impl Tlb {
-    ghost use Rattle.rv_tlb.specs.Tlb.{is_in, is_of, IsTlb};
+    ghost use Rattle.rv_tlb.specs.Tlb.{is_in, is_of, HasPpn, IsTlb};
 
     /// No entry.
     pub fn new() -> Tlb
@@ -51,7 +51,7 @@ impl Tlb {
     /// The entry of a page of a space.
     pub fn find(&self, space: Space, vpn: Vpn) -> Option<TlbEntry>
         ensures entry { result ≡ find (is_of space vpn) self.now }
-        ensures small { IfSome result (λ entry. entry.ppn.0 < 2 ^ 44) }
+        ensures ppn { IfSome result HasPpn }
         ensures kept { IsTlb self.now }
     {
         self.entries
@@ -64,7 +64,7 @@ impl Tlb {
     /// Puts an entry last. The first drops out where there are sixteen.
     pub fn put(&mut self, entry: TlbEntry)
         requires new { IsNone (find (is_of entry.space entry.vpn) self.old) }
-        requires small { entry.ppn.0 < 2 ^ 44 }
+        requires ppn { HasPpn entry }
         ensures room { length self.old < 16 → self.new ≡ self.old ++ entry ∷ [] }
         ensures full { length self.old ≡ 16 → self.new ≡ drop 1 self.old ++ entry ∷ [] }
     {

@@ -5,14 +5,16 @@ use Rattle.std.specs.List.{All}
 use Rattle.std.proofs.lemmas.Bool.{cases_Bool, false≢true}
 use Rattle.std.proofs.lemmas.Bool.Decides.{nat_tests}
 use Rattle.std.proofs.lemmas.Option.{slice_get_within, get_or_from_slice_get}
-use Rattle.byteorder.specs.Endian.{little_number}
+use Rattle.byteorder.specs.Endian.{little_number, little_bytes}
 use Rattle.pl_base.specs.declared.access.Kind.{Kind}
 use Rattle.pl_base.specs.declared.access.Kind.TheVariants as kind
+use Rattle.pl_base.specs.Bytes.{bytes_at, with_bytes}
+use Rattle.pl_base.specs.declared.page.TheConstants.{IMAGE_START}
 use Rattle.pl_base.specs.Perms.{grants}
 use Rattle.mon_image.specs.declared.page.ImagePage.{ImagePage}
-use Rattle.rv_alone.specs.Flat.{Page, first_address, page_number, number_in, with_number, permitted, stored}
-use Rattle.pl_history.specs.Making.{is_in}
-use Rattle.world_core.specs.Memory.{bytes_of, with_value}
+use Rattle.rv_alone.specs.Flat.{Page, page_number, number_in, with_number, permitted, stored}
+use Rattle.pl_base.specs.Pages.{is_among}
+use Rattle.world_core.specs.Memory.{bytes_of}
 use Rattle.world_core.specs.Pages.{flat_pages, page_for, located, AreApart}
 use Rattle.world_core.proofs.Lists.{get-set_same, get-set_other, or_true}
 
@@ -38,21 +40,21 @@ page_joined memory (page ∷ image) (number ∷ numbers) (suc i) = page_joined m
 -- what is read through permissions
 reads : (memory : List (List ℕ)) (k : Kind) (width address : ℕ) (t : Bool) (page : Option ImagePage) (number : Option ℕ)
     → option_map (number_in width address) (option_and_then (λ (p : Page). cond (grants p.perms k) (Some p) None) (cond t (joined memory page number) None))
-    ≡ option_map (λ n. little_number width (drop (address % 4096) (bytes_of memory n))) (cond t (page_for k page number) None)
+    ≡ option_map (λ n. little_number width (bytes_at (bytes_of memory n) (address % 4096) width)) (cond t (page_for k page number) None)
 reads memory k width address false page number = refl
 reads memory k width address true None number = refl
-reads memory k width address true (Some page) None = elim (grants page.perms k) as (λ g. None ≡ option_map (λ n. little_number width (drop (address % 4096) (bytes_of memory n))) (cond g None None)) [ true ↦ refl | false ↦ refl ]
+reads memory k width address true (Some page) None = elim (grants page.perms k) as (λ g. None ≡ option_map (λ n. little_number width (bytes_at (bytes_of memory n) (address % 4096) width)) (cond g None None)) [ true ↦ refl | false ↦ refl ]
 reads memory k width address true (Some page) (Some number) =
     elim (grants page.perms k) as (λ g. option_map (number_in width address) (cond g (Some (record { perms = page.perms; bytes = bytes_of memory number })) None)
-    ≡ option_map (λ n. little_number width (drop (address % 4096) (bytes_of memory n))) (cond g (Some number) None)) [ true ↦ refl | false ↦ refl ]
+    ≡ option_map (λ n. little_number width (bytes_at (bytes_of memory n) (address % 4096) width)) (cond g (Some number) None)) [ true ↦ refl | false ↦ refl ]
 
 pub reads_located : (memory : List (List ℕ)) (image : List ImagePage) (numbers : List ℕ) (k : Kind) (width address : ℕ)
     → option_map (number_in width address) (permitted k (flat_pages memory image numbers) address)
-    ≡ option_map (λ n. little_number width (drop (address % 4096) (bytes_of memory n))) (located k image numbers address)
+    ≡ option_map (λ n. little_number width (bytes_at (bytes_of memory n) (address % 4096) width)) (located k image numbers address)
 reads_located memory image numbers k width address =
-    ap (λ p. option_map (number_in width address) (option_and_then (λ (page : Page). cond (grants page.perms k) (Some page) None) (cond (leb first_address address) p None)))
+    ap (λ p. option_map (number_in width address) (option_and_then (λ (page : Page). cond (grants page.perms k) (Some page) None) (cond (leb IMAGE_START address) p None)))
     (page_joined memory image numbers (page_number address))
-    ∙ reads memory k width address (leb first_address address) (slice_get image (page_number address)) (slice_get numbers (page_number address))
+    ∙ reads memory k width address (leb IMAGE_START address) (slice_get image (page_number address)) (slice_get numbers (page_number address))
 
 -- ---- a store changes one page
 
@@ -101,7 +103,7 @@ page_within k true (Some page) number n bound each is_n = elim (cases_Bool (gran
 -- the page of an access is one of the enclave's
 pub located_within : (k : Kind) (image : List ImagePage) (numbers : List ℕ) (address n bound : ℕ) → located k image numbers address ≡ Some n → All (λ m. m < bound) numbers → n < bound
 located_within k image numbers address n bound is_n inside =
-    page_within k (leb first_address address) (slice_get image (page_number address)) (slice_get numbers (page_number address)) n bound
+    page_within k (leb IMAGE_START address) (slice_get image (page_number address)) (slice_get numbers (page_number address)) n bound
     (λ m is_m. element_within numbers (page_number address) m bound is_m inside) is_n
 
 -- and so it isn't outside of them
@@ -113,22 +115,22 @@ page_among k true (Some page) number n is_n = elim (cases_Bool (grants page.perm
   | inr may_not ↦ (let h : None ≡ Some n = rw may_not at is_n in cc)
 ]
 
-pub is_in_at : (numbers : List ℕ) (i n : ℕ) → slice_get numbers i ≡ Some n → is_in numbers n ≡ true
+pub is_in_at : (numbers : List ℕ) (i n : ℕ) → slice_get numbers i ≡ Some n → is_among numbers n ≡ true
 is_in_at [] i n here = cc
 is_in_at (m ∷ numbers) zero n here = let e : m ≡ n = cc in rw e (head_is n numbers)
   where
-    head_is : (n : ℕ) (numbers : List ℕ) → (eqb n n || is_in numbers n) ≡ true
+    head_is : (n : ℕ) (numbers : List ℕ) → (eqb n n || is_among numbers n) ≡ true
     head_is n numbers = grind (arith, nat_tests)
 is_in_at (m ∷ numbers) (suc i) n here = rw (is_in_at numbers i n here) (or_true (eqb m n))
 
-pub located_among : (k : Kind) (image : List ImagePage) (numbers : List ℕ) (address n page : ℕ) → located k image numbers address ≡ Some n → is_in numbers page ≡ false → page ≢ n
+pub located_among : (k : Kind) (image : List ImagePage) (numbers : List ℕ) (address n page : ℕ) → located k image numbers address ≡ Some n → is_among numbers page ≡ false → page ≢ n
 located_among k image numbers address n page is_n outside same =
-    let inside = is_in_at numbers (page_number address) n (page_among k (leb first_address address) (slice_get image (page_number address)) (slice_get numbers (page_number address)) n is_n) in
-    false≢true (sym outside ∙ ap (is_in numbers) same ∙ inside)
+    let inside = is_in_at numbers (page_number address) n (page_among k (leb IMAGE_START address) (slice_get image (page_number address)) (slice_get numbers (page_number address)) n is_n) in
+    false≢true (sym outside ∙ ap (is_among numbers) same ∙ inside)
 
 -- the store of the flat machine, by the page that is there
 abbrev pub changed : List (List ℕ) → List ImagePage → List ℕ → ℕ → ℕ → ℕ → ℕ → List Page
-changed memory image numbers address width value n = flat_pages (set memory n (with_value (bytes_of memory n) (address % 4096) width value)) image numbers
+changed memory image numbers address width value n = flat_pages (set memory n (with_bytes (bytes_of memory n) (address % 4096) (little_bytes width value))) image numbers
 
 stores : (memory : List (List ℕ)) (image : List ImagePage) (numbers : List ℕ) (width address value : ℕ) (t : Bool) (page : Option ImagePage) (number : Option ℕ)
     → slice_get image (page_number address) ≡ page → slice_get numbers (page_number address) ≡ number → AreApart numbers → All (λ n. n < length memory) numbers
@@ -143,7 +145,7 @@ stores memory image numbers width address value true (Some page) (Some number) i
     elim (grants page.perms kind.Store) as (λ g. option_map (λ (p : Page). set (flat_pages memory image numbers) (page_number address) (with_number width address value p))
     (cond g (Some (record { perms = page.perms; bytes = bytes_of memory number })) None)
     ≡ option_map (changed memory image numbers address width value) (cond g (Some number) None)) [
-      | true ↦ ap Some (page_changed memory image numbers (page_number address) number page (with_value (bytes_of memory number) (address % 4096) width value) is_page is_number
+      | true ↦ ap Some (page_changed memory image numbers (page_number address) number page (with_bytes (bytes_of memory number) (address % 4096) (little_bytes width value)) is_page is_number
           (λ j other is_other differ e. differ (apart j (page_number address) number (is_other ∙ ap Some e) is_number))
           (element_within numbers (page_number address) number (length memory) is_number inside))
       | false ↦ refl
@@ -153,6 +155,6 @@ pub stores_located : (memory : List (List ℕ)) (image : List ImagePage) (number
     → stored (flat_pages memory image numbers) address width value ≡ option_map (changed memory image numbers address width value) (located kind.Store image numbers address)
 stores_located memory image numbers width address value apart inside =
     ap (λ p. option_map (λ (q : Page). set (flat_pages memory image numbers) (page_number address) (with_number width address value q))
-    (option_and_then (λ (page : Page). cond (grants page.perms kind.Store) (Some page) None) (cond (leb first_address address) p None)))
+    (option_and_then (λ (page : Page). cond (grants page.perms kind.Store) (Some page) None) (cond (leb IMAGE_START address) p None)))
     (page_joined memory image numbers (page_number address))
-    ∙ stores memory image numbers width address value (leb first_address address) (slice_get image (page_number address)) (slice_get numbers (page_number address)) refl refl apart inside
+    ∙ stores memory image numbers width address value (leb IMAGE_START address) (slice_get image (page_number address)) (slice_get numbers (page_number address)) refl refl apart inside

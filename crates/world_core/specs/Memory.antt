@@ -1,7 +1,6 @@
 -- The bytes of all pages.
-use Rattle.std.specs.Prelude.{◌≡◌, ℕ, ◌+◌, List, [], ◌++◌, length, take, drop, replicate, slice_get, unwrap_or}
+use Rattle.std.specs.Prelude.{◌≡◌, ℕ, List, [], length, replicate, slice_get, unwrap_or}
 use Rattle.std.specs.List.{All}
-use Rattle.byteorder.specs.Endian.{little_bytes}
 
 -- each page has 4,096 bytes
 abbrev pub AreWhole : List (List ℕ) → Type 0
@@ -13,7 +12,3 @@ zero_page = replicate 4096 0
 -- the bytes of a page
 abbrev pub bytes_of : List (List ℕ) → ℕ → List ℕ
 bytes_of pages page = unwrap_or (slice_get pages page) []
-
--- a page with the lowest bytes of a value at an offset
-abbrev pub with_value : List ℕ → ℕ → ℕ → ℕ → List ℕ
-with_value bytes offset width value = take offset bytes ++ little_bytes width value ++ drop (offset + width) bytes

@@ -1,13 +1,14 @@
 -- An enclave's pages in memory, and its record as a state of the flat machine.
 use Rattle.std.specs.Prelude.{◌≡◌, ℕ, nat_le, false, if◌then◌else◌, List, [], ◌∷◌, map, slice_get, Option, Some, None}
+use Rattle.pl_base.specs.declared.page.TheConstants.{IMAGE_START}
 use Rattle.pl_base.specs.declared.access.Kind.{Kind}
 use Rattle.pl_base.specs.Perms.{grants}
 use Rattle.mon_image.specs.declared.page.ImagePage.{ImagePage}
 use Rattle.mon_enclave.specs.declared.enclave.PageKind.{PageKind}
 use Rattle.mon_enclave.specs.declared.enclave.Enclave.{Enclave}
 use Rattle.mon_enclave.specs.Records.{page_number_of}
-use Rattle.rv_alone.specs.Flat.{Page, Flat, on, first_address, page_number}
-use Rattle.pl_history.specs.Making.{is_in}
+use Rattle.rv_alone.specs.Flat.{Page, Flat, on, page_number}
+use Rattle.pl_base.specs.Pages.{is_among}
 use Rattle.world_core.specs.Memory.{bytes_of}
 
 -- the numbers of an enclave's pages
@@ -39,7 +40,7 @@ page_for kind (Some page) number = if grants page.perms kind then number else No
 -- the page in memory that an access goes to
 abbrev pub located : Kind → List ImagePage → List ℕ → ℕ → Option ℕ
 located kind image numbers address =
-    if nat_le first_address address then page_for kind (slice_get image (page_number address)) (slice_get numbers (page_number address)) else None
+    if nat_le IMAGE_START address then page_for kind (slice_get image (page_number address)) (slice_get numbers (page_number address)) else None
 
 -- a page stands at one place of a list alone
 abbrev pub AreApart : List ℕ → Type 0
@@ -47,4 +48,4 @@ AreApart numbers = (i j page : ℕ) → slice_get numbers i ≡ Some page → sl
 
 -- memory is the same outside of these pages
 abbrev pub SameOutside : List ℕ → List (List ℕ) → List (List ℕ) → Type 0
-SameOutside numbers old new = (page : ℕ) → is_in numbers page ≡ false → slice_get new page ≡ slice_get old page
+SameOutside numbers old new = (page : ℕ) → is_among numbers page ≡ false → slice_get new page ≡ slice_get old page

@@ -1,28 +1,23 @@
 // Accesses of an enclave to its pages.
 ghost use Rattle.std.specs.Prelude.{◌≡◌, ◌<◌, ◌%◌, IsTrue, length, if◌then◌else◌, Some, None, false};
 ghost use Rattle.std.specs.List.{All};
-ghost use Rattle.rv_insn.specs.Table.{is_width};
+ghost use Rattle.pl_base.specs.Width.{is_width};
 ghost use Rattle.rv_alone.specs.Flat.{fetched, read, stored};
 ghost use Rattle.world_core.specs.Pages.{numbers_of, flat_pages, located, AreApart, SameOutside};
 
 use crate::memory::PageMemory;
 use mon_enclave::PageKind;
 use mon_image::ImagePage;
-use pl_base::Kind;
-
-// Where the pages of an enclave begin.
-const FIRST_ADDRESS: u64 = 0x10000;
-
-const PAGE_SIZE: u64 = 4096;
+use pl_base::{IMAGE_START, Kind, PAGE_BYTES};
 
 // The page in memory that an access goes to.
 fn locate(image: &[ImagePage], pages: &[PageKind], kind: Kind, address: u64) -> Option<u32>
     ensures { result ≡ located kind image.now (numbers_of pages.now) address }
 {
-    if address < FIRST_ADDRESS {
+    if address < IMAGE_START {
         return None;
     }
-    let at = ((address - FIRST_ADDRESS) / PAGE_SIZE) as usize;
+    let at = ((address - IMAGE_START) / PAGE_BYTES) as usize;
     let page = image.get(at)?;
     if !page.perms.grants(kind) {
         return None;
@@ -43,7 +38,7 @@ pub fn fetch(
     ensures { result ≡ fetched (flat_pages memory.now image.now (numbers_of pages.now)) address }
 {
     match locate(image, pages, Kind::Fetch, address) {
-        Some(page) => Some(memory.fetch(page, (address % PAGE_SIZE) as usize)),
+        Some(page) => Some(memory.fetch(page, (address % PAGE_BYTES) as usize)),
         None => None,
     }
 }
@@ -62,7 +57,7 @@ pub fn load(
     ensures { result ≡ read (flat_pages memory.now image.now (numbers_of pages.now)) address width }
 {
     match locate(image, pages, Kind::Load, address) {
-        Some(page) => Some(memory.read(page, (address % PAGE_SIZE) as usize, width)),
+        Some(page) => Some(memory.read(page, (address % PAGE_BYTES) as usize, width)),
         None => None,
     }
 }
@@ -88,7 +83,7 @@ pub fn store(
 {
     match locate(image, pages, Kind::Store, address) {
         Some(page) => {
-            memory.write(page, (address % PAGE_SIZE) as usize, width, value);
+            memory.write(page, (address % PAGE_BYTES) as usize, width, value);
             true
         }
         None => false,

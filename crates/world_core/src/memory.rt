@@ -1,8 +1,9 @@
 // The bytes of all pages.
-ghost use Rattle.std.specs.Prelude.{◌≡◌, ◌+◌, ◌<◌, ◌≤◌, ◌%◌, IsTrue, length, drop, replicate, slice_set, IfOk};
-ghost use Rattle.byteorder.specs.Endian.{little_number};
-ghost use Rattle.rv_insn.specs.Table.{is_width};
-ghost use Rattle.world_core.specs.Memory.{zero_page, bytes_of, with_value};
+ghost use Rattle.std.specs.Prelude.{◌≡◌, ◌+◌, ◌<◌, ◌≤◌, ◌%◌, IsTrue, length, replicate, slice_set, IfOk};
+ghost use Rattle.byteorder.specs.Endian.{little_number, little_bytes};
+ghost use Rattle.pl_base.specs.Bytes.{bytes_at, with_bytes};
+ghost use Rattle.pl_base.specs.Width.{is_width};
+ghost use Rattle.world_core.specs.Memory.{zero_page, bytes_of};
 
 use byteorder::{ByteOrder, LittleEndian};
 use pl_base::Memory;
@@ -33,7 +34,7 @@ impl Model for PageMemory {
 fn place_value(page: &mut [u8; 4096], offset: usize, width: u8, value: u64)
     requires offset { offset + width ≤ 4096 }
     requires width { IsTrue (is_width width) }
-    ensures { page.new ≡ with_value page.old offset width value }
+    ensures { page.new ≡ with_bytes page.old offset (little_bytes width value) }
 {
     let mut bytes = [0u8; 8];
     LittleEndian::write_u64(&mut bytes, value);
@@ -57,10 +58,10 @@ impl PageMemory {
     pub fn fetch(&self, page: u32, offset: usize) -> u32
         requires page { page < length self.now }
         requires offset { offset + 4 ≤ 4096 }
-        ensures { result ≡ little_number 4 (drop offset (bytes_of self.now page)) }
+        ensures { result ≡ little_number 4 (bytes_at (bytes_of self.now page) offset 4) }
     {
         let bytes = &self.pages[page as usize];
-        LittleEndian::read_u32(&bytes[offset..])
+        LittleEndian::read_u32(&bytes[offset..offset + 4])
     }
 
     /// The number of `width` bytes at an offset of a page, little-endian.
@@ -68,10 +69,11 @@ impl PageMemory {
         requires page { page < length self.now }
         requires offset { offset + width ≤ 4096 }
         requires width { IsTrue (is_width width) }
-        ensures { result ≡ little_number width (drop offset (bytes_of self.now page)) }
+        ensures { result ≡ little_number width (bytes_at (bytes_of self.now page) offset width) }
     {
         let bytes = &self.pages[page as usize];
-        LittleEndian::read_uint(&bytes[offset..], usize::from(width))
+        let count = usize::from(width);
+        LittleEndian::read_uint(&bytes[offset..offset + count], count)
     }
 
     /// Puts the lowest `width` bytes of a value at an offset of a page, little-endian.
@@ -79,7 +81,7 @@ impl PageMemory {
         requires page { page < length self.old }
         requires offset { offset + width ≤ 4096 }
         requires width { IsTrue (is_width width) }
-        ensures { self.new ≡ slice_set self.old page (with_value (bytes_of self.old page) offset width value) }
+        ensures { self.new ≡ slice_set self.old page (with_bytes (bytes_of self.old page) offset (little_bytes width value)) }
     {
         let place = &mut self.pages[page as usize];
         place_value(place, offset, width, value);

@@ -1,11 +1,10 @@
 // The first line that names what isn't there, waits for too much, or has no place in memory.
 ghost use Rattle.std.specs.Prelude.{◌≡◌, ◌≤◌, ◌-◌, ◌&&◌, None, List, ◌∷◌, nat_le, not, length, sum_by, position, Some, IfOk, OnOk, if◌then◌else◌};
-ghost use Rattle.mem_geom.specs.Layout.{memory_end};
 ghost use Rattle.pl_history.specs.declared.line.AttackLine.{AttackLine};
 ghost use Rattle.pl_history.specs.Rules.{names_known, after_known, waits_known, counts_of, is_place, kept_length, attack_length, attack_known};
 ghost use Rattle.world_setup.specs.References.{first_unknown, first_wait, first_attack, KeepsLengths};
 
-use mem_geom::FIRST_ADDRESS;
+use mem_geom::{MEMORY_START, memory_end};
 use pl_base::{Listed, Memory};
 use pl_history::{AttackLine, Line};
 use std::alloc::Global;
@@ -126,18 +125,11 @@ pub(crate) fn first_wait(counts: &[usize], scripts: &[Listed<Line>]) -> Option<u
 // The most bytes of all lines that write, keep or write back.
 const MOST_BYTES: u64 = 4_194_304;
 
-// The address where off-chip memory ends.
-fn memory_end(zones: u8) -> u64
-    ensures { result ≡ memory_end zones }
-{
-    FIRST_ADDRESS + 411_904 * u64::from(zones) + 2304
-}
-
 // Whether each byte from a place on is off chip.
 fn is_place(zones: u8, pa: u64, len: u64) -> bool
     ensures { result ≡ is_place zones pa len }
 {
-    FIRST_ADDRESS <= pa && u128::from(pa) + u128::from(len) <= u128::from(memory_end(zones))
+    MEMORY_START <= pa && u128::from(pa) + u128::from(len) <= u128::from(memory_end(zones))
 }
 
 // The lengths that were kept, by their names.

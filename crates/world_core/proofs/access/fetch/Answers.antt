@@ -1,5 +1,6 @@
-use Rattle.std.proofs.Common.{◌∙◌, ap, sym, Some, option_map, drop, ◌%◌}
+use Rattle.std.proofs.Common.{◌∙◌, ap, sym, Some, option_map, ◌%◌}
 use Rattle.byteorder.specs.Endian.{little_number}
+use Rattle.pl_base.specs.Bytes.{bytes_at}
 use Rattle.pl_base.specs.declared.access.Kind.TheVariants.{Fetch}
 use Rattle.world_core.specs.Memory.{bytes_of}
 use Rattle.world_core.specs.Pages.{numbers_of}
@@ -11,10 +12,10 @@ fetch-requires-clause-page c = located_within Fetch c.args.image.now (numbers_of
 
 pub returns-in-Some : goal.returns-in-Some
 returns-in-Some c =
-    ap Some c.fetch.ensures ∙ ap (option_map (λ n. little_number 4 (drop (c.args.address % 4096) (bytes_of c.args.memory.now n)))) (sym c.in-Some.is ∙ c.locate.ensures)
+    ap Some c.fetch.ensures ∙ ap (option_map (λ n. little_number 4 (bytes_at (bytes_of c.args.memory.now n) (c.args.address % 4096) 4))) (sym c.in-Some.is ∙ c.locate.ensures)
     ∙ sym (reads_located c.args.memory.now c.args.image.now (numbers_of c.args.pages.now) Fetch 4 c.args.address)
 
 pub returns-in-None : goal.returns-in-None
 returns-in-None c =
-    ap (option_map (λ n. little_number 4 (drop (c.args.address % 4096) (bytes_of c.args.memory.now n)))) (sym c.in-None.is ∙ c.locate.ensures)
+    ap (option_map (λ n. little_number 4 (bytes_at (bytes_of c.args.memory.now n) (c.args.address % 4096) 4))) (sym c.in-None.is ∙ c.locate.ensures)
     ∙ sym (reads_located c.args.memory.now c.args.image.now (numbers_of c.args.pages.now) Fetch 4 c.args.address)

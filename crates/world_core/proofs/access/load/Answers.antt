@@ -1,5 +1,6 @@
-use Rattle.std.proofs.Common.{◌∙◌, ap, sym, Some, option_map, drop, ◌%◌}
+use Rattle.std.proofs.Common.{◌∙◌, ap, sym, Some, option_map, ◌%◌}
 use Rattle.byteorder.specs.Endian.{little_number}
+use Rattle.pl_base.specs.Bytes.{bytes_at}
 use Rattle.pl_base.specs.declared.access.Kind.TheVariants.{Load}
 use Rattle.world_core.specs.Memory.{bytes_of}
 use Rattle.world_core.specs.Pages.{numbers_of}
@@ -11,10 +12,10 @@ read-requires-clause-page c = located_within Load c.args.image.now (numbers_of c
 
 pub returns-in-Some : goal.returns-in-Some
 returns-in-Some c =
-    ap Some c.read.ensures ∙ ap (option_map (λ n. little_number c.args.width (drop (c.args.address % 4096) (bytes_of c.args.memory.now n)))) (sym c.in-Some.is ∙ c.locate.ensures)
+    ap Some c.read.ensures ∙ ap (option_map (λ n. little_number c.args.width (bytes_at (bytes_of c.args.memory.now n) (c.args.address % 4096) c.args.width))) (sym c.in-Some.is ∙ c.locate.ensures)
     ∙ sym (reads_located c.args.memory.now c.args.image.now (numbers_of c.args.pages.now) Load c.args.width c.args.address)
 
 pub returns-in-None : goal.returns-in-None
 returns-in-None c =
-    ap (option_map (λ n. little_number c.args.width (drop (c.args.address % 4096) (bytes_of c.args.memory.now n)))) (sym c.in-None.is ∙ c.locate.ensures)
+    ap (option_map (λ n. little_number c.args.width (bytes_at (bytes_of c.args.memory.now n) (c.args.address % 4096) c.args.width))) (sym c.in-None.is ∙ c.locate.ensures)
     ∙ sym (reads_located c.args.memory.now c.args.image.now (numbers_of c.args.pages.now) Load c.args.width c.args.address)

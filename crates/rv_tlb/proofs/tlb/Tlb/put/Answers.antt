@@ -16,10 +16,10 @@ invariant_of-self c =
           let full : length entries ≡ 16 = grind (arith, nat_tests, w.if-is_full.ensures, c.is_full.ensures.value) in
           let items : c.push.new.self.items ≡ drop 1 entries ++ entry ∷ []
           = c.push.ensures.items ∙ ap (λ (inside : Inside). inside.entries.items ++ entry ∷ []) w.self-inside-is ∙ ap (λ rest. rest ++ entry ∷ []) w.remove.ensures.items in
-          rw items (IsTlb-push (drop 1 entries) entry (IsTlb-drop entries c.self.invariant (omega arith)) (omega (arith, w.remove.ensures.len, ap length w.remove.ensures.items)) c.requires.small (IsNone-drop (is_of entry.space entry.vpn) entries new))
+          rw items (IsTlb-push (drop 1 entries) entry (IsTlb-drop entries c.self.invariant (omega arith)) (omega (arith, w.remove.ensures.len, ap length w.remove.ensures.items)) c.requires.ppn (IsNone-drop (is_of entry.space entry.vpn) entries new))
       | else-is_full w ↦
           let room : length entries < 16 = grind (arith, nat_tests, w.if-is_full.ensures, c.self.invariant.room) in
           let items : c.push.new.self.items ≡ entries ++ entry ∷ []
           = c.push.ensures.items ∙ ap (λ (inside : Inside). inside.entries.items ++ entry ∷ []) w.self-inside-is in
-          rw items (IsTlb-push entries entry c.self.invariant room c.requires.small new)
+          rw items (IsTlb-push entries entry c.self.invariant room c.requires.ppn new)
     ]

@@ -1,0 +1,2 @@
+mod HartSets
+mod Needs

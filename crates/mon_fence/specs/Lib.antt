@@ -1,0 +1,2 @@
+pub mod Fences
+pub use Rattle.pl_base.specs.HartSet

@@ -1,0 +1,12 @@
+//! Fences: which harts still have to acknowledge that a mapping is taken away.
+//!
+//! A hart that takes a mapping away posts a fence, which needs the acknowledgement of each other hart. It leaves the fence once none is
+//! lacking.
+#![tactic(auto)]
+
+mod fences;
+
+pub use fences::{Fence, Fences};
+
+#[cfg(test)]
+mod tests;

@@ -1,0 +1,2 @@
+pub mod Owners
+pub use Rattle.pl_base.specs.Pages
