@@ -1,13 +1,13 @@
 -- Words that are sent later change nothing in a run so far.
-use Rattle.std.proofs.Common.{◌≡◌, ℕ, zero, suc, Bool, true, false, cond, eqb, ltb, List, ◌++◌, length, Option, Some, None, option_and_then, refl, arith, inl, inr, length-append}
+use Rattle.std.proofs.Common.{◌≡◌, ℕ, zero, suc, Bool, true, false, cond, eqb, ltb, List, ◌++◌, length, Option, Some, None, option_and_then, refl, sym, ap, ◌∙◌, arith, inl, inr, length-append}
 use Rattle.std.proofs.Math.ListN.{get_or-append}
 use Rattle.std.proofs.lemmas.Bool.{cases_Bool, ltb-true, lt-ltb}
 use Rattle.rv_alone.specs.declared.step.Act.{Act}
 use Rattle.rv_alone.specs.declared.step.Act.TheVariants.{Set, Load, Store, Call, Trap}
 use Rattle.rv_alone.specs.Effect.{act_of}
-use Rattle.rv_alone.specs.Flat.{Flat, Status, on, ended, fetched}
-use Rattle.rv_alone.specs.Alone.{Outcome, trap, next_of, context_of, acts, calls, receives, sends, exits, runs, advance_by, alone}
-use Rattle.rv_alone.specs.Laws.{SentLater}
+use Rattle.rv_alone.specs.Flat.{Image, Flat, Status, on, ended, fetched}
+use Rattle.rv_alone.specs.Alone.{Outcome, trap, next_of, context_of, acts, calls, receives, sends, exits, runs, advance_by, alone, page_written, with_page, written_pages}
+use Rattle.rv_alone.specs.Laws.{SentLater, WrittenLater}
 
 -- the step with more words gives what the step gave
 abbrev Later : Outcome → Outcome → Type 0
@@ -62,3 +62,36 @@ pub sent_later : SentLater
 unfolding alone
 sent_later image sent later zero a e = e
 sent_later image sent later (suc n) a e = then_later (alone image sent n) (alone image (sent ++ later) n) sent later a (sent_later image sent later n) e
+
+-- ---- the pages written so far
+
+came : (image : Image) (sent : List ℕ) (n : ℕ) (a : Flat) → alone image sent (suc n) ≡ Some a → (b : Flat) × (alone image sent n ≡ Some b)
+unfolding alone
+came image sent n a e = from (alone image sent n) refl e
+  where
+    from : (o : Option Flat) → alone image sent n ≡ o → option_and_then (λ (b : Flat). advance_by b.status b sent) o ≡ Some a → (b : Flat) × (alone image sent n ≡ Some b)
+    from None is h = cc
+    from (Some b) is h = (b, is)
+
+next_written_later : (image : Image) (sent later : List ℕ) (n : ℕ) (a : Flat) → alone image sent n ≡ Some a → written_pages image (sent ++ later) n ≡ written_pages image sent n
+    → written_pages image (sent ++ later) (suc n) ≡ written_pages image sent (suc n)
+unfolding written_pages
+next_written_later image sent later n a is so_far =
+    ap (λ o. with_page (written_pages image (sent ++ later) n) (option_and_then (λ (x : Flat). page_written x.status x) o)) (sent_later image sent later n a is)
+    ∙ ap (λ ws. with_page ws (page_written a.status a)) so_far
+    ∙ ap (λ o. with_page (written_pages image sent n) (option_and_then (λ (x : Flat). page_written x.status x) o)) (sym is)
+
+none_later : (image : Image) (sent later : List ℕ) → written_pages image (sent ++ later) zero ≡ written_pages image sent zero
+unfolding written_pages
+none_later image sent later = refl
+
+so_far_later : (image : Image) (sent later : List ℕ) (n : ℕ) (a : Flat) → alone image sent n ≡ Some a → written_pages image (sent ++ later) n ≡ written_pages image sent n
+so_far_later image sent later zero a e = none_later image sent later
+so_far_later image sent later (suc n) a e =
+    let before = came image sent n a e in
+    next_written_later image sent later n before.0 before.1 (so_far_later image sent later n before.0 before.1)
+
+pub written_later : WrittenLater
+written_later image sent later n a e =
+    let so_far = so_far_later image sent later n a e in
+    (so_far, next_written_later image sent later n a e so_far)

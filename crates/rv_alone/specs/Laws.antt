@@ -1,5 +1,5 @@
 -- Laws of an image that is run alone.
-use Rattle.std.specs.Prelude.{◌≡◌, ℕ, false, ◌==◌, nat_eq, List, ◌++◌, map, slice_get, Some, IsSomeAnd, IsTrue}
+use Rattle.std.specs.Prelude.{◌≡◌, ℕ, suc, false, ◌==◌, nat_eq, List, ◌++◌, map, slice_get, Some, IsSomeAnd, IsTrue}
 use Rattle.std.specs.List.{All, IsDistinct, list_any}
 use Rattle.pl_base.specs.declared.access.Kind.TheVariants.{Store}
 use Rattle.pl_base.specs.Perms.{grants}
@@ -9,6 +9,12 @@ use Rattle.rv_alone.specs.Alone.{alone, written_pages}
 -- words that are sent later change nothing in a run so far
 abbrev pub SentLater : Type 0
 SentLater = (image : Image) (sent later : List ℕ) (n : ℕ) (a : Flat) → alone image sent n ≡ Some a → alone image (sent ++ later) n ≡ Some a
+
+-- nor in the pages written so far, and in the page that the next instruction stores to
+abbrev pub WrittenLater : Type 0
+WrittenLater =
+    (image : Image) (sent later : List ℕ) (n : ℕ) (a : Flat) → alone image sent n ≡ Some a
+    → (written_pages image (sent ++ later) n ≡ written_pages image sent n) × (written_pages image (sent ++ later) (suc n) ≡ written_pages image sent (suc n))
 
 -- pages keep their permissions, and those that no instruction stored to their bytes
 abbrev pub PermissionsStay : Type 0

@@ -13,17 +13,17 @@ use Rattle.rv_alu.specs.Values.{wrapped, quotient, remainder, unsigned_quotient,
 use Rattle.rv_insn.specs.declared.insn.AluOp.TheVariants.{Div, Divu, Rem, Remu, Divw, Divuw, Remw, Remuw}
 use mir.Val.{bits}
 
-at_64 : (n : ℕ) → n < 2 ^ 64 → signed 64 n ≡ to_z w64 n
+pub at_64 : (n : ℕ) → n < 2 ^ 64 → signed 64 n ≡ to_z w64 n
 at_64 n h = grind (arith, ints, nat_tests)
 
-at_32 : (n : ℕ) → n < 2 ^ 32 → signed 32 n ≡ to_z w32 n
+pub at_32 : (n : ℕ) → n < 2 ^ 32 → signed 32 n ≡ to_z w32 n
 at_32 n h = grind (arith, ints, nat_tests)
 
-wrapped_is : (w : Width) (z : ℤ) → to_z w (wrapped (bits w) z) ≡ int_wrap w z
+pub wrapped_is : (w : Width) (z : ℤ) → to_z w (wrapped (bits w) z) ≡ int_wrap w z
 unfolding int_wrap
 wrapped_is w z = refl
 
-wrapped_below : (width : ℕ) (z : ℤ) → wrapped width z < 2 ^ width
+pub wrapped_below : (width : ℕ) (z : ℤ) → wrapped width z < 2 ^ width
 wrapped_below width (pos a) = mod_below a (2 ^ width) (pow_pos width)
 wrapped_below width (negsuc a) = let positive = pow_pos width in omega arith
 
@@ -82,7 +82,7 @@ unsigned_back width a b ha = elim (cases_Bool (eqb b 0)) [
 given_back : (q r a b : ℕ) → a < 2 ^ 64 → (q * b % 2 ^ 64 + r) % 2 ^ 64 ≡ a → (q * b + r) % 2 ^ 64 ≡ a % 2 ^ 64
 given_back q r a b h e = sym (mod-add-mod (q * b) (2 ^ 64) r) ∙ e ∙ sym (mod-eq_of_lt h)
 
-low_word : (n : ℕ) → n < 2 ^ 32 → wrapped 64 (signed 32 n) % 2 ^ 32 ≡ n
+pub low_word : (n : ℕ) → n < 2 ^ 32 → wrapped 64 (signed 32 n) % 2 ^ 32 ≡ n
 low_word n h = elim (cases_lt n (2 ^ 31)) [
   | inl low ↦ (rw (lt-ltb n (2 ^ 31) low) (omega arith))
   | inr high ↦ (let less : pos n -ℤ pos (2 ^ 32) ≡ negsuc (2 ^ 32 - suc n) = omega (arith, ints) in rw (le-ltb n (2 ^ 31) high, less) (omega arith))
@@ -103,7 +103,7 @@ quotient_below width a b =
     let z = wrapped_below width (int_div (signed width a) (signed width b)) in
     elim (eqb b 0) as (λ t. cond t (2 ^ width - 1) (wrapped width (int_div (signed width a) (signed width b))) < 2 ^ width) [ true ↦ omega arith | false ↦ z ]
 
-remainder_below : (width a b : ℕ) → a < 2 ^ width → remainder width a b < 2 ^ width
+pub remainder_below : (width a b : ℕ) → a < 2 ^ width → remainder width a b < 2 ^ width
 remainder_below width a b h =
     let z = wrapped_below width (int_rem (signed width a) (signed width b)) in
     elim (eqb b 0) as (λ t. cond t a (wrapped width (int_rem (signed width a) (signed width b))) < 2 ^ width) [ true ↦ h | false ↦ z ]
@@ -114,12 +114,12 @@ unsigned_quotient_below width a b h =
     let less = div-le_self a b in
     elim (eqb b 0) as (λ t. cond t (2 ^ width - 1) (a / b) < 2 ^ width) [ true ↦ omega arith | false ↦ omega arith ]
 
-unsigned_remainder_below : (width a b : ℕ) → a < 2 ^ width → unsigned_remainder width a b < 2 ^ width
+pub unsigned_remainder_below : (width a b : ℕ) → a < 2 ^ width → unsigned_remainder width a b < 2 ^ width
 unsigned_remainder_below width a b h =
     let less = mod-le a b in
     elim (eqb b 0) as (λ t. cond t a (a % b) < 2 ^ width) [ true ↦ h | false ↦ omega arith ]
 
-low_below : (n : ℕ) → n % 2 ^ 32 < 2 ^ 32
+pub low_below : (n : ℕ) → n % 2 ^ 32 < 2 ^ 32
 low_below n = omega arith
 
 pub div_rem : GivesBack 64 Div Rem

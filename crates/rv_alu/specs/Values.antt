@@ -1,6 +1,6 @@
 -- What the operations and the comparisons of branches give (RISC-V Unprivileged ISA, RV64I and the M extension).
 -- A register is a number below 2^64; read as signed it is a whole number from -2^63 to 2^63 - 1.
-use Rattle.std.specs.Prelude.{ℕ, ◌+◌, ◌-◌, ◌*◌, ◌/◌, ◌%◌, ◌^◌, ◌<◌, ◌≡◌, Bool, not, ◌==◌, nat_lt, if◌then◌else◌, ℤ, pos, ◌-ℤ◌, ◌*ℤ◌, int_lt, int_div, int_rem, unsigned_abs, bit_and, bit_or, bit_xor}
+use Rattle.std.specs.Prelude.{ℕ, ◌+◌, ◌-◌, ◌*◌, ◌/◌, ◌%◌, ◌^◌, ◌<◌, ◌≡◌, ◌≢◌, Bool, not, ◌==◌, nat_lt, if◌then◌else◌, ℤ, pos, ◌-ℤ◌, ◌*ℤ◌, ◌≤ℤ◌, int_lt, int_div, int_rem, unsigned_abs, bit_and, bit_or, bit_xor}
 use Rattle.std.specs.Int.{int_div_euclid, int_rem_euclid}
 use Rattle.rv_insn.specs.Word.{signed}
 use Rattle.rv_insn.specs.declared.insn.AluOp.{AluOp}
@@ -102,8 +102,26 @@ is_taken Bge a b = not (int_lt (signed 64 a) (signed 64 b))
 is_taken Bltu a b = nat_lt a b
 is_taken Bgeu a b = not (nat_lt a b)
 
--- ---- a law
+-- ---- laws
 
 -- the quotient times the divisor, and the remainder, give back the low bits of the dividend
 abbrev pub GivesBack : ℕ → AluOp → AluOp → Type 0
 GivesBack width division rest = (a b : ℕ) → a < 2 ^ 64 → b < 2 ^ 64 → (alu_value division a b * b + alu_value rest a b) % 2 ^ width ≡ a % 2 ^ width
+
+-- the remainder has a smaller magnitude than the divisor, and the dividend's sign where it isn't 0
+pub record IsRemainder (dividend divisor rest : ℤ) : Type 0 where
+  pub smaller : unsigned_abs rest < unsigned_abs divisor
+  pub not_negative : pos 0 ≤ℤ dividend → pos 0 ≤ℤ rest
+  pub not_positive : dividend ≤ℤ pos 0 → rest ≤ℤ pos 0
+
+-- the low bits of a register, read as signed
+abbrev pub low_signed : ℕ → ℕ → ℤ
+low_signed width a = signed width (a % 2 ^ width)
+
+-- so it is at each divisor but 0
+abbrev pub LeavesRemainder : ℕ → AluOp → Type 0
+LeavesRemainder width rest =
+    (a b : ℕ) → a < 2 ^ 64 → b < 2 ^ 64 → b % 2 ^ width ≢ 0 → IsRemainder (low_signed width a) (low_signed width b) (low_signed width (alu_value rest a b))
+
+abbrev pub LeavesUnsignedRemainder : ℕ → AluOp → Type 0
+LeavesUnsignedRemainder width rest = (a b : ℕ) → a < 2 ^ 64 → b < 2 ^ 64 → b % 2 ^ width ≢ 0 → alu_value rest a b % 2 ^ width < b % 2 ^ width

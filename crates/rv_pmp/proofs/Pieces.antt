@@ -1,8 +1,13 @@
 -- The eight-byte pieces of a page: which one an address is in.
-use Rattle.std.proofs.Common.{◌≡◌, ℕ, ◌+◌, ◌*◌, ◌/◌, ◌-◌, ◌%◌, ◌<◌, ◌≤◌, true, eqb, subst, sym, inl, inr, arith}
-use Rattle.std.proofs.lemmas.Bool.{cases_Bool, eqb-true}
+use Rattle.std.proofs.Common.{◌≡◌, ℕ, zero, suc, Bool, List, [], ◌∷◌, refl, add-zero, zero-add, ◌+◌, ◌*◌, ◌/◌, ◌-◌, ◌%◌, ◌<◌, ◌≤◌, true, eqb, subst, sym, inl, inr, arith}
+use Rattle.std.proofs.lemmas.Bool.{cases_Bool, eqb-true, and_parts, and_from}
+use Rattle.std.specs.List.{list_all, range_with_len}
 use Rattle.std.proofs.lemmas.Bool.Decides.{nat_tests}
 use Rattle.pl_base.specs.Width.{is_width}
+use Rattle.pl_base.specs.declared.access.Kind.{Kind}
+use Rattle.pl_base.specs.declared.access.Kind.TheVariants.{Fetch, Load, Store}
+use Rattle.rv_pmp.specs.declared.rule.Rule.{Rule}
+use Rattle.rv_pmp.specs.Pmp.{permits, pieces_allowed}
 use Rattle.pl_base.specs.Span.{span, covers}
 
 -- the number of the piece that an address is in, in a page at `start`
@@ -45,3 +50,40 @@ piece_covers start pa width s h w a =
     let fits = within_eight pa width w a in
     let some = width_positive width w in
     (omega arith, grind (arith, nat_tests))
+
+-- ---- the test over the pieces of a page
+
+all_counted : (p : ℕ → Bool) (start count : ℕ) → ((k : ℕ) → k < count → p (start + k) ≡ true) → list_all p (range_with_len start count) ≡ true
+all_counted p start zero each = refl
+all_counted p start (suc count) each =
+    and_from (p start) (list_all p (range_with_len (start + 1) count)) (rw add-zero at (each 0 (omega arith)))
+    (all_counted p (start + 1) count (λ k below. subst (λ n. p n ≡ true) (omega arith) (each (suc k) (omega arith))))
+
+each_counted : (p : ℕ → Bool) (start count : ℕ) → list_all p (range_with_len start count) ≡ true → (k : ℕ) → k < count → p (start + k) ≡ true
+each_counted p start zero all k below = absurd (omega arith)
+each_counted p start (suc count) all zero below = rw add-zero (and_parts (p start) (list_all p (range_with_len (start + 1) count)) all).0
+each_counted p start (suc count) all (suc k) below =
+    subst (λ n. p n ≡ true) (omega arith) (each_counted p (start + 1) count (and_parts (p start) (list_all p (range_with_len (start + 1) count)) all).1 k (omega arith))
+
+-- a test of each kind is a test of all three
+all_kinds : (g : Kind → Bool) → ((kind : Kind) → g kind ≡ true) → list_all g (Fetch ∷ Load ∷ Store ∷ []) ≡ true
+all_kinds g each = rw (each Fetch, each Load, each Store) refl
+
+each_kind : (g : Kind → Bool) → list_all g (Fetch ∷ Load ∷ Store ∷ []) ≡ true → (kind : Kind) → g kind ≡ true
+each_kind g all Fetch = (and_parts _ _ all).0
+each_kind g all Load = (and_parts _ _ (and_parts (g Fetch) _ all).1).0
+each_kind g all Store = (and_parts _ _ (and_parts (g Load) _ (and_parts (g Fetch) _ all).1).1).0
+
+pub pieces_allowed-from : (rules : List Rule) (start count : ℕ) → ((piece : ℕ) → piece < count → (kind : Kind) → permits rules (start + 8 * piece) 8 kind ≡ true)
+    → pieces_allowed rules start count ≡ true
+unfolding pieces_allowed
+pieces_allowed-from rules start count each =
+    all_counted (λ piece. list_all (permits rules (start + 8 * piece) 8) (Fetch ∷ Load ∷ Store ∷ [])) 0 count
+    (λ k below. rw zero-add (all_kinds (permits rules (start + 8 * k) 8) (each k below)))
+
+pub pieces_allowed-each : (rules : List Rule) (start count : ℕ) → pieces_allowed rules start count ≡ true
+    → (piece : ℕ) → piece < count → (kind : Kind) → permits rules (start + 8 * piece) 8 kind ≡ true
+unfolding pieces_allowed
+pieces_allowed-each rules start count all piece below =
+    each_kind (permits rules (start + 8 * piece) 8)
+    (rw zero-add at (each_counted (λ k. list_all (permits rules (start + 8 * k) 8) (Fetch ∷ Load ∷ Store ∷ [])) 0 count all piece below))

@@ -1,8 +1,11 @@
 -- The decision of a list of rules (RISC-V Privileged Architecture, Physical Memory Protection, Priority and Matching Logic).
 use Rattle.std.specs.Prelude.{ℕ, ◌+◌, ◌*◌, ◌%◌, ◌<◌, ◌≤◌, ◌≡◌, Bool, false, IsTrue, ◌&&◌, if◌then◌else◌, List, [], ◌∷◌}
+use Rattle.std.specs.List.{list_all, range_with_len}
 use Rattle.pl_base.specs.Perms.{grants}
 use Rattle.pl_base.specs.Width.{is_width}
 use Rattle.pl_base.specs.declared.access.Kind.{Kind}
+use Rattle.pl_base.specs.declared.access.Kind.TheVariants.{Fetch, Load, Store}
+use Rattle.mem_geom.specs.Layout.{page_start}
 use Rattle.rv_pmp.specs.Rule.{perms_of, span_of}
 use Rattle.pl_base.specs.Span.{span, overlaps, covers}
 use Rattle.rv_pmp.specs.declared.rule.Rule.{Rule}
@@ -21,17 +24,22 @@ permits_after before (rule ∷ rules) access kind =
 abbrev pub permits : List Rule → ℕ → ℕ → Kind → Bool
 permits rules pa width kind = permits_after 0 rules (span pa (pa + width)) kind
 
--- where a page of off-chip memory begins
-abbrev pub page_address : ℕ → ℕ
-page_address page = 0x80000000 + 4096 * page
+-- each of the first so many eight-byte pieces from an address on is let through for all three kinds
+unfoldable pub pieces_allowed : List Rule → ℕ → ℕ → Bool
+pieces_allowed rules start count =
+    list_all (λ piece. list_all (permits rules (start + 8 * piece) 8) (Fetch ∷ Load ∷ Store ∷ [])) (range_with_len 0 count)
 
--- every aligned eight-byte piece of the page is let through for all three kinds
+-- the 512 pieces of a page of off-chip memory are
+abbrev pub page_allowed : List Rule → ℕ → Bool
+page_allowed rules page = pieces_allowed rules (page_start page) 512
+
+-- the same as a fact: every aligned eight-byte piece of the page is let through for all three kinds
 abbrev pub PageAllowed : List Rule → ℕ → Type 0
 PageAllowed rules page =
-    (piece : ℕ) → piece < 512 → (kind : Kind) → IsTrue (permits rules (page_address page + 8 * piece) 8 kind)
+    (piece : ℕ) → piece < 512 → (kind : Kind) → IsTrue (permits rules (page_start page + 8 * piece) 8 kind)
 
 -- every aligned access inside the page is let through
 abbrev pub AccessesAllowed : List Rule → ℕ → Type 0
 AccessesAllowed rules page =
     (pa width : ℕ) (kind : Kind) → IsTrue (is_width width) → pa % width ≡ 0
-    → page_address page ≤ pa → pa < page_address page + 4096 → IsTrue (permits rules pa width kind)
+    → page_start page ≤ pa → pa < page_start page + 4096 → IsTrue (permits rules pa width kind)

@@ -6,13 +6,10 @@ ghost use Rattle.rv_pmp.specs.Decision.{PermitsEach, IsOpen, PiecesOpen, LeavesF
 ghost use Rattle.rv_pmp.specs.Pmp.{permits_after};
 
 use crate::rule::Rule;
-use pl_base::{Kind, Span};
+use pl_base::{Kind, PAGE_BYTES, Span};
 
 /// The bytes of the pieces that a page is looked at in.
 const PIECE: u64 = 8;
-
-/// The bytes of a page.
-pub const PAGE_SIZE: u64 = 4096;
 
 /// Whether the rules let an access through.
 pub fn decides(rules: &[Rule], access: Span, kind: Kind) -> bool
@@ -37,7 +34,7 @@ pub fn page_is_open(rules: &[Rule], start: u64) -> bool
     requires fits { start + 4096 < 2 ^ 64 }
     ensures { IsTrue result ↔ PiecesOpen rules.now start }
 {
-    let end = start + PAGE_SIZE;
+    let end = start + PAGE_BYTES;
     let mut at = start;
     while at < end {
         match open_until(rules, at, end) {

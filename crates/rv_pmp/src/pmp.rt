@@ -1,15 +1,13 @@
 ghost use Rattle.std.specs.Prelude.{◌≡◌, ◌+◌, ◌↔◌, IsTrue};
 ghost use Rattle.std.specs.List.{AllPass};
 ghost use Rattle.rv_pmp.specs.Rule.{is_valid};
-ghost use Rattle.rv_pmp.specs.Pmp.{permits, PageAllowed, AccessesAllowed};
+ghost use Rattle.rv_pmp.specs.Pmp.{permits, page_allowed, PageAllowed, AccessesAllowed};
 
-use crate::decision::{PAGE_SIZE, decides, page_is_open};
+use crate::decision::{decides, page_is_open};
 use crate::rule::Rule;
+use mem_geom::page_start;
 use pl_base::{Kind, Pa, Span};
 use std::marker::Model;
-
-/// Where page 0 of off-chip memory begins.
-const MEMORY_START: u64 = 0x8000_0000;
 
 /// The sixteen rules that a hart's accesses pass. Contracts see them as a list.
 #[derive(Clone, Copy, PartialEq, Eq, Debug)]
@@ -56,9 +54,10 @@ impl Pmp {
 
     /// Whether each aligned eight-byte piece of a page of off-chip memory is let through for all three kinds.
     pub fn page_allowed(&self, page: u32) -> bool
+        ensures allowed { result ≡ page_allowed self.now page }
         ensures pieces { IsTrue result ↔ PageAllowed self.now page }
         ensures accesses { IsTrue result → AccessesAllowed self.now page }
     {
-        page_is_open(&self.rules, MEMORY_START + PAGE_SIZE * u64::from(page))
+        page_is_open(&self.rules, page_start(page))
     }
 }

@@ -5,22 +5,22 @@ use Rattle.pl_base.specs.Perms.{grants}
 use Rattle.pl_base.specs.declared.access.Kind.{Kind}
 use Rattle.pl_base.specs.declared.access.Mode.{Mode}
 use Rattle.pl_base.specs.declared.address.Vpn.{Vpn}
-use Rattle.rv_sv39.specs.Word.{is_user, is_accessed, is_dirty, ppn_of, perms_of, is_formed, names_table, is_reached, is_aligned, is_marked, page_of}
+use Rattle.rv_sv39.specs.Word.{is_user, is_accessed, is_dirty, ppn_of, perms_of, is_valid_entry, is_pointer, is_accessible, is_aligned, has_a_and_d, page_of}
 use Rattle.rv_sv39.specs.declared.walk.Walked.{Walked}
 use Rattle.rv_sv39.specs.declared.walk.Walked.TheVariants.{Next, Leaf, PageFault}
 
--- The rules in their order: (1) the word is formed; (2) without R and X it is a pointer, which stands above level 0 and has U, A and
--- D clear; else it is a leaf, which (3) is aligned, (4) is reached by the mode, (5) permits the kind and (6) is marked, and then
--- (7) gives its page and permissions.
+-- The rules in their order: (1) the entry is valid; (2) without R and X it is a pointer, which stands above level 0 and has U, A and
+-- D clear; else it is a leaf, which (3) is aligned, (4) is accessible in the mode, (5) permits the kind and (6) has A and for a store D
+-- set, and then (7) gives its page and permissions.
 abbrev pub step : ℕ → ℕ → Vpn → Kind → Mode → Walked
 step level word vpn kind mode =
-    if not (is_formed word) then PageFault
-    else (if names_table word then
+    if not (is_valid_entry word) then PageFault
+    else (if is_pointer word then
     (if is_user word || is_accessed word || is_dirty word || level == 0 then PageFault else Next (record { 0 = ppn_of word }))
     else (if not (is_aligned level word) then PageFault
-    else (if not (is_reached word mode) then PageFault
+    else (if not (is_accessible word mode) then PageFault
     else (if not (grants (perms_of word) kind) then PageFault
-    else (if not (is_marked word kind) then PageFault
+    else (if not (has_a_and_d word kind) then PageFault
     else Leaf (page_of level word vpn) (perms_of word))))))
 
 -- the page that a step gives has a number that a table word can hold

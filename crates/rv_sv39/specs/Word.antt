@@ -1,4 +1,4 @@
--- One word of a page table (RISC-V Privileged Architecture, Sv39 page table entry).
+-- One word of a page table (RISC-V Privileged Architecture, Sv39 page-table entry).
 -- Bits: V 0, R 1, W 2, X 3, U 4, G 5, A 6, D 7, RSW 9:8, PPN 53:10. G and RSW are ignored.
 use Rattle.std.specs.Prelude.{ℕ, ◌+◌, ◌*◌, ◌/◌, ◌%◌, ◌^◌, Bool, ◌==◌, ◌&&◌, ◌||◌, not}
 use Rattle.std.specs.Int.{bit_at}
@@ -13,9 +13,6 @@ use Rattle.pl_base.specs.declared.perms.Perms.{Perms}
 -- a bit of the word is set
 abbrev pub has : ℕ → ℕ → Bool
 has word bit = bit_at word bit == 1
-
-abbrev pub is_valid : ℕ → Bool
-is_valid word = has word 0
 
 abbrev pub is_readable : ℕ → Bool
 is_readable word = has word 1
@@ -43,28 +40,28 @@ ppn_of word = word / 2 ^ 10 % 2 ^ 44
 abbrev pub perms_of : ℕ → Perms
 perms_of word = record { 0 = word / 2 % 8 }
 
--- V is set, W does not stand without R, and bits 63:54 are zero
-abbrev pub is_formed : ℕ → Bool
-is_formed word = is_valid word && (is_readable word || not (is_writable word)) && word / 2 ^ 54 == 0
+-- a valid entry: V is set, W does not stand without R, and bits 63:54 are zero
+abbrev pub is_valid_entry : ℕ → Bool
+is_valid_entry word = has word 0 && (is_readable word || not (is_writable word)) && word / 2 ^ 54 == 0
 
--- neither R nor X: the word names a table
-abbrev pub names_table : ℕ → Bool
-names_table word = not (is_readable word) && not (is_executable word)
+-- a pointer to the next level of the page table: neither R nor X
+abbrev pub is_pointer : ℕ → Bool
+is_pointer word = not (is_readable word) && not (is_executable word)
 
--- the U bit is the one that the mode reaches
-abbrev pub is_reached : ℕ → Mode → Bool
-is_reached word User = is_user word
-is_reached word Super = not (is_user word)
+-- the page is accessible in the mode: User needs U set, Super needs it clear
+abbrev pub is_accessible : ℕ → Mode → Bool
+is_accessible word User = is_user word
+is_accessible word Super = not (is_user word)
 
 -- the word of a superpage has zeros in the fields of the page number that are below its level
 abbrev pub is_aligned : ℕ → ℕ → Bool
 is_aligned level word = ppn_of word % 2 ^ (9 * level) == 0
 
--- A is set, and D for a store
-abbrev pub is_marked : ℕ → Kind → Bool
-is_marked word Store = is_accessed word && is_dirty word
-is_marked word Fetch = is_accessed word
-is_marked word Load = is_accessed word
+-- A is set, and for a store D
+abbrev pub has_a_and_d : ℕ → Kind → Bool
+has_a_and_d word Store = is_accessed word && is_dirty word
+has_a_and_d word Fetch = is_accessed word
+has_a_and_d word Load = is_accessed word
 
 -- the page of a leaf: the fields below its level are those of the virtual page number
 abbrev pub page_of : ℕ → ℕ → Vpn → Ppn

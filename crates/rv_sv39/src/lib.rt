@@ -8,7 +8,7 @@ mod word;
 
 pub use address::canonical;
 pub use law::steps_give_walks;
-pub use walk::{Walked, walk_step};
+pub use walk::{Walked, entry_address, walk_step};
 
 #[cfg(test)]
 mod tests;

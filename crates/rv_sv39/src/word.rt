@@ -1,6 +1,6 @@
 ghost use Rattle.std.specs.Prelude.{◌≡◌, ◌<◌, ◌*◌, ◌^◌};
 ghost use Rattle.pl_base.specs.Address.{IsPpn};
-ghost use Rattle.rv_sv39.specs.Word.{has, ppn_of, perms_of, is_formed, names_table, is_reached, is_aligned, is_marked, page_of};
+ghost use Rattle.rv_sv39.specs.Word.{has, ppn_of, perms_of, is_valid_entry, is_pointer, is_accessible, is_aligned, has_a_and_d, page_of};
 
 use pl_base::{Kind, Mode, Perms, Ppn, Vpn};
 
@@ -37,22 +37,22 @@ pub fn has(word: u64, bit: u32) -> bool
 }
 
 /// Whether V is set, W does not stand without R, and bits 63:54 are zero.
-pub fn is_formed(word: u64) -> bool
-    ensures { result ≡ is_formed word }
+pub fn is_valid_entry(word: u64) -> bool
+    ensures { result ≡ is_valid_entry word }
 {
     has(word, V) && (has(word, R) || !has(word, W)) && word >> RESERVED == 0
 }
 
 /// Whether the word names a table: neither R nor X.
-pub fn names_table(word: u64) -> bool
-    ensures { result ≡ names_table word }
+pub fn is_pointer(word: u64) -> bool
+    ensures { result ≡ is_pointer word }
 {
     !has(word, R) && !has(word, X)
 }
 
 /// Whether U is as the mode reaches it.
-pub fn is_reached(word: u64, mode: Mode) -> bool
-    ensures { result ≡ is_reached word mode }
+pub fn is_accessible(word: u64, mode: Mode) -> bool
+    ensures { result ≡ is_accessible word mode }
 {
     match mode {
         Mode::User => has(word, U),
@@ -69,8 +69,8 @@ pub fn is_aligned(level: u8, word: u64) -> bool
 }
 
 /// Whether A is set, and D for a store.
-pub fn is_marked(word: u64, kind: Kind) -> bool
-    ensures { result ≡ is_marked word kind }
+pub fn has_a_and_d(word: u64, kind: Kind) -> bool
+    ensures { result ≡ has_a_and_d word kind }
 {
     match kind {
         Kind::Store => has(word, A) && has(word, D),

@@ -1,4 +1,4 @@
-use Rattle.rv_sv39.proofs.Walking.{steps_walk, walks_once, walk_is, walk_from}
+use Rattle.rv_sv39.proofs.Walking.{steps_walk, walks_once, walk_is, walk_from, walks_onward}
 use Rattle.rv_sv39.proofs.law.steps_give_walks.Goals as goal
 
 pub returns-clause-walk : goal.returns-clause-walk
@@ -7,6 +7,9 @@ returns-clause-walk c = λ words root vpn mode kind. steps_walk words vpn mode k
 pub returns-clause-once : goal.returns-clause-once
 returns-clause-once c = λ words root vpn mode kind a b. walks_once words vpn mode kind 2 root.0 a b
 
-pub returns-clause-onward : goal.returns-clause-onward
-returns-clause-onward c = λ words vpn mode kind level table answer.
+pub returns-clause-by_steps : goal.returns-clause-by_steps
+returns-clause-by_steps c = λ words vpn mode kind level table answer.
     (walk_is words vpn mode kind level table answer, walk_from words vpn mode kind level table answer)
+
+pub returns-clause-onward : goal.returns-clause-onward
+returns-clause-onward c = λ words root vpn mode kind level table answer. walks_onward words vpn mode kind root level table answer
