@@ -1,15 +1,15 @@
 -- Steps give the walk, and a walk has one answer.
-use Rattle.std.proofs.Common.{◌≡◌, ℕ, zero, suc, Bool, true, false, ◌&&◌, ◌||◌, not, cond, ◌==◌, Option, Some, None, option_and_then, ◌↔◌, inl, inr, refl, sym, ap, ◌∙◌, subst}
-use Rattle.std.proofs.Common.{⊎_elim}
-use Rattle.std.proofs.lemmas.Bool.{cases_Bool, cond-true, cond-false, eqb-true, false≢true, and_right}
+use Rattle.std.proofs.Common.{◌≡◌, ℕ, zero, suc, Bool, true, false, ◌&&◌, ◌||◌, not, cond, ◌==◌, Option, Some, None, option_and_then, ◌↔◌, inl, inr, refl, sym, ap, ◌∙◌, subst, ⊎_elim, arith}
+use Rattle.std.proofs.lemmas.Bool.{cases_Bool, cond-true, cond-false, eqb-true, eqb-false, false≢true, and_right}
 use Rattle.pl_base.specs.Perms.{grants}
+use Rattle.pl_base.specs.declared.perms.Perms.{Perms}
 use Rattle.pl_base.specs.declared.access.Kind.{Kind}
 use Rattle.pl_base.specs.declared.access.Mode.{Mode}
 use Rattle.pl_base.specs.declared.address.Ppn.{Ppn}
 use Rattle.pl_base.specs.declared.address.Vpn.{Vpn}
-use Rattle.rv_sv39.specs.Step.{step}
+use Rattle.rv_sv39.specs.Step.{step, FitsAccess, StepsFit}
 use Rattle.rv_sv39.specs.Walk.{leads_on, translates, Answer, entry, next_table, table_at, WalksFrom, ends, leads, breaks, answer_of, steps_from}
-use Rattle.rv_sv39.specs.Word.{is_readable, is_executable, is_user, is_accessed, is_dirty, ppn_of, perms_of, is_valid_entry, is_accessible, is_aligned, has_a_and_d, page_of}
+use Rattle.rv_sv39.specs.Word.{is_readable, is_executable, is_user, is_accessed, is_dirty, ppn_of, perms_of, is_valid_entry, is_pointer, is_accessible, is_aligned, has_a_and_d, page_of}
 use Rattle.rv_sv39.specs.declared.walk.Walked.{Walked}
 use Rattle.rv_sv39.specs.declared.walk.Walked.TheVariants.{Next, Leaf, PageFault}
 
@@ -36,6 +36,32 @@ in_any_order true true x u a d lowest true false permitted accessed next leaf fa
 in_any_order true true x u a d lowest true true false accessed next leaf fault = refl
 in_any_order true true x u a d lowest true true true false next leaf fault = refl
 in_any_order true true x u a d lowest true true true true next leaf fault = refl
+
+-- what a step answers fits the access, whatever the tests before it say
+fits_in_order : (level : ℕ) (kind : Kind) (valid pointer barred aligned accessible accessed : Bool) (next ppn : Ppn) (perms : Perms)
+    → FitsAccess level kind (cond (not valid) PageFault (cond pointer (cond (barred || level == 0) PageFault (Next next))
+    (cond (not aligned) PageFault (cond (not accessible) PageFault (cond (not (grants perms kind)) PageFault (cond (not accessed) PageFault (Leaf ppn perms)))))))
+fits_in_order level kind false pointer barred aligned accessible accessed next ppn perms = tt
+fits_in_order level kind true true true aligned accessible accessed next ppn perms = tt
+fits_in_order level kind true true false aligned accessible accessed next ppn perms = elim (cases_Bool (level == 0)) [
+  | inl lowest ↦ rw lowest tt
+  | inr above ↦ rw above (omega (arith, eqb-false level 0 above))
+]
+fits_in_order level kind true false barred false accessible accessed next ppn perms = tt
+fits_in_order level kind true false barred true false accessed next ppn perms = tt
+fits_in_order level kind true false barred true true accessed next ppn perms = elim (cases_Bool (grants perms kind)) [
+  | inl permitted ↦ rw permitted (of_last accessed permitted)
+  | inr not_permitted ↦ rw not_permitted tt
+]
+  where
+    of_last : (accessed : Bool) → grants perms kind ≡ true → FitsAccess level kind (cond (not accessed) PageFault (Leaf ppn perms))
+    of_last true permitted = permitted
+    of_last false permitted = tt
+
+pub steps_fit : StepsFit
+steps_fit level word vpn kind mode =
+    fits_in_order level kind (is_valid_entry word) (is_pointer word) ((is_user word || is_accessed word) || is_dirty word)
+    (is_aligned level word) (is_accessible word mode) (has_a_and_d word kind) (record { 0 = ppn_of word }) (page_of level word vpn) (perms_of word)
 
 -- a word is not a pointer and a leaf
 apart : (valid r x u a d above aligned accessible permitted accessed : Bool)

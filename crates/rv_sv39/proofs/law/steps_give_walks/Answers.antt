@@ -1,5 +1,8 @@
-use Rattle.rv_sv39.proofs.Walking.{steps_walk, walks_once, walk_is, walk_from, walks_onward}
+use Rattle.rv_sv39.proofs.Walking.{steps_walk, walks_once, walk_is, walk_from, walks_onward, steps_fit}
 use Rattle.rv_sv39.proofs.law.steps_give_walks.Goals as goal
+
+pub returns-clause-fits : goal.returns-clause-fits
+returns-clause-fits c = steps_fit
 
 pub returns-clause-walk : goal.returns-clause-walk
 returns-clause-walk c = λ words root vpn mode kind. steps_walk words vpn mode kind 2 root.0
