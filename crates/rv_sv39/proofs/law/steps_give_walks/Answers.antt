@@ -1,4 +1,4 @@
-use Rattle.rv_sv39.proofs.Walking.{steps_walk, walks_once, walk_is, walk_from, walks_onward, steps_fit}
+use Rattle.rv_sv39.proofs.Walking.{steps_walk, walks_once, walk_is, walk_from, walks_onward, steps_fit, steps_say}
 use Rattle.rv_sv39.proofs.law.steps_give_walks.Goals as goal
 
 pub returns-clause-fits : goal.returns-clause-fits
@@ -16,3 +16,6 @@ returns-clause-by_steps c = λ words vpn mode kind level table answer.
 
 pub returns-clause-onward : goal.returns-clause-onward
 returns-clause-onward c = λ words root vpn mode kind level table answer. walks_onward words vpn mode kind root level table answer
+
+pub returns-clause-says : goal.returns-clause-says
+returns-clause-says c = λ words root vpn mode kind. steps_say words vpn mode kind root
