@@ -67,8 +67,8 @@ pub record IsRun (source : Ends) (text : List ℕ) : Type 0 where
   pub setup : SetupParts
   pub reads : Reads runnable_of source (Ok setup)
   pub history : HistoryData
-  pub legal : Legal setup history.entries
-  pub answered : AllAnswered setup history.entries
+  pub legal : Legal setup history.bytes history.entries
+  pub answered : AllAnswered setup history.bytes history.entries
   pub text_is : text ≡ output_text setup.harts history
 
 -- measured images: the source was read to its end and is a setup; the text is one line for each of its images

@@ -1,6 +1,7 @@
 -- What contracts see of a history.
-use Rattle.std.specs.Prelude.{ℕ, ◌+◌, ◌^◌, ◌<◌, ◌≤◌, List, length}
+use Rattle.std.specs.Prelude.{ℕ, ◌+◌, ◌^◌, ◌<◌, ◌≤◌, List, [], length}
 use Rattle.std.specs.List.{All}
+use Rattle.pl_base.specs.Bytes.{bytes_at}
 use Rattle.pl_history.specs.declared.answer.Answer.{Answer}
 use Rattle.pl_history.specs.declared.answer.Answer.TheVariants.{Wrote, Kept}
 use Rattle.pl_history.specs.declared.answer.Entry.{Entry}
@@ -17,6 +18,12 @@ abbrev pub part_end : Answer → ℕ
 part_end (Wrote changed pa from len) = from + len
 part_end (Kept pa from len) = from + len
 part_end _ = 0
+
+-- the part of the bytes that an answer names; nothing where it names none
+abbrev pub named_part : List ℕ → Answer → List ℕ
+named_part bytes (Wrote changed pa from len) = bytes_at bytes from len
+named_part bytes (Kept pa from len) = bytes_at bytes from len
+named_part bytes _ = []
 
 -- the part that an entry names lies in the bytes
 abbrev pub NamesPart : List ℕ → Entry → Type 0

@@ -1,23 +1,42 @@
--- Making enclaves: `create`.
-use Rattle.std.specs.Prelude.{◌≡◌, ℕ, ◌==◌, nat_lt, Bool, true, false, not, if◌then◌else◌, List, [], ◌∷◌, length, count_by, find, Option, Some, None, option_map, slice_get}
-use Rattle.std.specs.List.{list_any}
+-- Making enclaves: `create`, `shadow`, `fork` and `grant`.
+use Rattle.std.specs.Prelude.{ℕ, ◌+◌, ◌==◌, nat_lt, Bool, true, false, not, List, [], ◌∷◌, ◌++◌, length, count_by, find, Option, Some, option_map, slice_get}
 use Rattle.std.specs.Option.{option_map_or}
+use Rattle.pl_base.specs.declared.number.EncNo.{EncNo}
 use Rattle.pl_base.specs.declared.refusal.No.{No}
-use Rattle.pl_base.specs.declared.refusal.No.TheVariants.{Exists, Count, Twice, NotYours}
-use Rattle.pl_base.specs.declared.state.State.TheVariants.{Building, Fresh}
+use Rattle.pl_base.specs.declared.refusal.No.TheVariants.{Exists, Count, Twice, NotYours, StillMapped, NoEnclave, WrongState, TooMany}
+use Rattle.pl_base.specs.declared.state.State.{State}
+use Rattle.pl_base.specs.declared.state.State.TheVariants as state_is
 use Rattle.pl_base.specs.Refusals.{refuse, first_refusal}
-use Rattle.pl_base.specs.States.{is_free}
+use Rattle.pl_base.specs.States.{is_free, is_absent}
 use Rattle.pl_history.specs.declared.answer.Answer.{Answer}
 use Rattle.pl_history.specs.declared.answer.Answer.TheVariants as answer_is
+use Rattle.pl_history.specs.declared.line.Line.{Line}
 use Rattle.pl_history.specs.declared.setup.SetupParts.{SetupParts}
-use Rattle.pl_history.specs.Monitor.{Owner, host, number, Monitor, free_number, with_number}
+use Rattle.pl_history.specs.Answering.{AtOnce, Begins, EndsDoneOrFaulted}
+use Rattle.pl_history.specs.Licence.{Licensed}
+use Rattle.pl_history.specs.Monitor.{number, Monitor, is_host, maps_of, freed, with_number, with_owner}
 
-abbrev pub is_host : Option Owner → Bool
-is_host (Some host) = true
-is_host _ = false
+-- ---- the refusals
 
+-- how many pages an image has
 abbrev pub page_count : SetupParts → ℕ → ℕ
 page_count setup image = option_map_or (λ i. length i.pages) (slice_get setup.images image) 0
+
+-- a number is sealed: forks may share its pages
+abbrev pub is_sealed : State → Bool
+is_sealed state_is.Sealed = true
+is_sealed _ = false
+
+-- on, building or dying: a line has the number under way
+abbrev pub is_under_way : State → Bool
+is_under_way state_is.On = true
+is_under_way state_is.Building = true
+is_under_way state_is.Dying = true
+is_under_way _ = false
+
+-- how many spares a number may be given since it was made
+abbrev pub most_spares : ℕ
+most_spares = 256
 
 -- the first page in a list that stands in it more than once
 abbrev pub first_twice : List ℕ → Option ℕ
@@ -25,33 +44,79 @@ first_twice pages = find (λ page. nat_lt 1 (count_by (λ other. other == page) 
 
 -- the first page in a list that isn't the host's
 abbrev pub first_not_host : Monitor → List ℕ → Option ℕ
-first_not_host s = find (λ page. not (is_host (s.owner page)))
+first_not_host s pages = find (λ page. not (is_host (s.owner page))) pages
 
--- why a number can't be made of an image and these pages: it isn't free, the list has another length than the image,
--- a page stands in it twice, a page isn't the host's
+-- the first page in a list that is mapped, or whose mapping is being removed
+abbrev pub first_mapped : Monitor → List ℕ → Option ℕ
+first_mapped s pages = find (λ page. nat_lt 0 (maps_of s page)) pages
+
+-- why these pages can't be taken, one cause over the whole list and then the next: one isn't the host's, one is mapped, one is barred
+abbrev pub page_refusals : SetupParts → Monitor → List ℕ → List (Option No)
+page_refusals setup s pages =
+    option_map NotYours (first_not_host s pages) ∷ option_map StillMapped (first_mapped s pages) ∷ []
+
+-- why a number can't be made of an image and these pages: it isn't free, the list has another length than the image, a page stands in
+-- it twice, a page can't be taken
 abbrev pub create_refusal : SetupParts → Monitor → ℕ → ℕ → List ℕ → Option No
 create_refusal setup s e image pages = first_refusal (
     refuse (not (is_free (s.number e).state)) Exists
     ∷ refuse (not (length pages == page_count setup image)) Count
     ∷ option_map Twice (first_twice pages)
-    ∷ option_map NotYours (first_not_host s pages)
-    ∷ [])
+    ∷ page_refusals setup s pages)
 
--- begun where nothing refuses it, and then done
-abbrev pub AllowedCreate : Option No → Bool → Answer → Type 0
-AllowedCreate refusal false answer_is.Begun = refusal ≡ None
-AllowedCreate refusal false (answer_is.No cause) = refusal ≡ Some cause
-AllowedCreate refusal true answer_is.Ok = Unit {0}
-AllowedCreate refusal _ _ = ⊥
+-- why a number can't be forked from a shadow with these spares: the shadow isn't sealed, the number isn't free, a page stands in the
+-- list twice, a page can't be taken, there are too many
+abbrev pub fork_refusal : SetupParts → Monitor → ℕ → ℕ → List ℕ → Option No
+fork_refusal setup s shadow e pages = first_refusal (
+    refuse (not (is_sealed (s.number shadow).state)) NoEnclave
+    ∷ refuse (not (is_free (s.number e).state)) Exists
+    ∷ option_map Twice (first_twice pages)
+    ∷ (page_refusals setup s pages ++ refuse (nat_lt most_spares (length pages)) TooMany ∷ []))
 
-abbrev pub is_in : List ℕ → ℕ → Bool
-is_in pages page = list_any (λ other. other == page) pages
+-- why a number can't be given one more spare: there is no enclave, a line has it under way, the page can't be taken, there are too many
+abbrev pub grant_refusal : SetupParts → Monitor → ℕ → ℕ → Option No
+grant_refusal setup s e page =
+    let n = s.number e in
+    first_refusal (
+    refuse (is_absent n.state) NoEnclave
+    ∷ refuse (is_under_way n.state) (WrongState n.state)
+    ∷ (page_refusals setup s (page ∷ []) ++ refuse (nat_lt most_spares (length n.spares + 1)) TooMany ∷ []))
 
--- all its pages are the number's from the beginning
+-- ---- the answers
+
+-- a number that is being made is done, or a fault stops it
+abbrev pub AllowedCreate : SetupParts → Monitor → Line → ℕ → ℕ → List ℕ → Bool → Answer → Type 0
+AllowedCreate setup s line e image pages = Begins (create_refusal setup s e image pages) (EndsDoneOrFaulted (Licensed setup s line))
+
+abbrev pub AllowedFork : SetupParts → Monitor → Line → ℕ → ℕ → List ℕ → Bool → Answer → Type 0
+AllowedFork setup s line shadow e pages = Begins (fork_refusal setup s shadow e pages) (EndsDoneOrFaulted (Licensed setup s line))
+
+abbrev pub AllowedGrant : SetupParts → Monitor → ℕ → ℕ → Bool → Answer → Type 0
+AllowedGrant setup s e page = AtOnce (grant_refusal setup s e page) (Some answer_is.Ok)
+
+-- ---- what they change
+
+-- at Begun all pages are the number's; its hart is left as it was
 abbrev pub building : Monitor → ℕ → ℕ → List ℕ → Monitor
 building s e image pages =
-    let made = with_number s e (record free_number { state = Building; image = image; pages = pages }) in
-    record made { owner = λ page. if is_in pages page then Some (number e) else s.owner page }
+    with_owner (with_number s e (record (freed (s.number e)) { state = state_is.Building; image = image; pages = pages })) pages (number e)
 
+-- a forked number has the shadow's image, and the pages as spares
+abbrev pub forking : Monitor → ℕ → ℕ → List ℕ → Monitor
+forking s shadow e pages =
+    let forked = record (freed (s.number e)) { state = state_is.Building; image = (s.number shadow).image; spares = pages; parent = Some shadow } in
+    with_owner (with_number s e forked) pages (number e)
+
+-- a created or forked number is fresh and live, a shadow sealed
 abbrev pub made : Monitor → ℕ → Monitor
-made s e = with_number s e (record (s.number e) { state = Fresh; live = true })
+made s e = with_number s e (record (s.number e) { state = state_is.Fresh; live = true })
+
+abbrev pub sealed : Monitor → ℕ → Monitor
+sealed s e = with_number s e (record (s.number e) { state = state_is.Sealed })
+
+-- a fault leaves the number with its pages
+abbrev pub made_faulted : Monitor → ℕ → Monitor
+made_faulted s e = with_number s e (record (s.number e) { state = state_is.Faulted })
+
+abbrev pub granted : Monitor → ℕ → ℕ → Monitor
+granted s e page = with_owner (with_number s e (record (s.number e) { spares = (s.number e).spares ++ page ∷ [] })) (page ∷ []) (number e)

@@ -1,7 +1,7 @@
 -- The abstract monitor's state: who owns each page, the host's memory and mappings, the enclave numbers, the attacks, and how
 -- far each actor's lines are answered.
-use Rattle.std.specs.Prelude.{ℕ, ◌+◌, ◌==◌, nat_lt, Bool, true, false, if◌then◌else◌, List, [], length, map, replicate, Option, Some, None, option_map, slice_get, unwrap_or}
-use Rattle.pl_base.specs.declared.perms.Perms.{Perms}
+use Rattle.std.specs.Prelude.{ℕ, ◌+◌, ◌==◌, nat_lt, Bool, true, false, if◌then◌else◌, List, [], ◌++◌, length, map, find, count_by, replicate, Option, Some, None, option_map, slice_get, unwrap_or}
+use Rattle.pl_base.specs.Pages.{is_among}
 use Rattle.pl_base.specs.declared.state.State.{State}
 use Rattle.pl_base.specs.declared.state.State.TheVariants.{Free}
 use Rattle.mon_image.specs.declared.image.Image.{Image}
@@ -10,24 +10,22 @@ use Rattle.rv_alone.specs.Flat as flat
 use Rattle.pl_history.specs.declared.line.Line.{Line}
 use Rattle.pl_history.specs.declared.setup.SetupParts.{SetupParts}
 use Rattle.pl_history.specs.Rules.{guarded_of, pages_of}
+use Rattle.pl_history.specs.Space.{Mapping, count_of_page}
 
 pub data Owner : Type 0 where
   guard : Owner
   host : Owner
   number : ℕ → Owner
 
--- a mapping of the host's space: the page that a virtual page number leads to, and what may be done with it
-pub record Mapping : Type 0 where
-  pub vpn : ℕ
-  pub page : ℕ
-  pub perms : Perms
-
--- a mapping that a hart is taking away
+-- a mapping of the host's space that a hart is taking away
 pub record Removal : Type 0 where
   pub hart : ℕ
   pub mapping : Mapping
 
--- an enclave number; it is live from the answer that it is made until it begins to be given back
+-- An enclave number: its state; whether it is live, from the answer that it is made until it begins to be given back, for a shadow
+-- never; the hart that it is on, where it is on; its image; the pages that it was made of, none for a forked number; all pages ever
+-- given to it as spares, in order; the number that it was forked from; the words sent to it, in order; how many words were taken of
+-- those that it sent out; and how many of its instructions had retired when a run last left it.
 pub record Number : Type 0 where
   pub state : State
   pub live : Bool
@@ -50,8 +48,8 @@ pub record Progress : Type 0 where
   pub answered : ℕ
   pub begun : Bool
 
--- the owner of each page that there is; the host's space, the removals under way and the bytes of each of its pages; each
--- enclave number; the attacks; each actor's progress
+-- the owner of each page that there is; the host's space, the removals under way and the bytes of each of its pages (those of other
+-- pages mean nothing); each enclave number; the attacks; each actor's progress
 pub record Monitor : Type 0 where
   pub owner : ℕ → Option Owner
   pub space : List Mapping
@@ -63,6 +61,26 @@ pub record Monitor : Type 0 where
 
 abbrev pub free_number : Number
 free_number = record { state = Free; live = false; hart = 0; image = 0; pages = []; spares = []; parent = None; sent = []; taken = 0; retired = 0 }
+
+-- a number that is free again keeps its image and hart, which mean nothing then
+abbrev pub freed : Number → Number
+freed n = record n { state = Free; live = false; pages = []; spares = []; parent = None; sent = []; taken = 0; retired = 0 }
+
+-- all pages that a number took from the host
+abbrev pub held : Number → List ℕ
+held n = n.pages ++ n.spares
+
+abbrev pub is_host : Option Owner → Bool
+is_host (Some host) = true
+is_host _ = false
+
+-- the mapping of a virtual page number that a hart is taking away, where one does
+abbrev pub removed_at : List Removal → ℕ → Option Mapping
+removed_at removals vpn = option_map (λ (r : Removal). r.mapping) (find (λ (r : Removal). r.mapping.vpn == vpn) removals)
+
+-- how often a page is mapped by the host: in its space and in the removals under way
+abbrev pub maps_of : Monitor → ℕ → ℕ
+maps_of s page = count_of_page s.space page + count_by (λ (r : Removal). r.mapping.page == page) s.removals
 
 abbrev pub first_owner : SetupParts → ℕ → Option Owner
 first_owner setup page =
@@ -82,7 +100,7 @@ opening setup = record {
   progress = λ actor. record { answered = 0; begun = false };
 }
 
--- the lines of a hart
+-- the script of a hart
 abbrev pub script_of : SetupParts → ℕ → List Line
 script_of setup hart = unwrap_or (slice_get setup.lines hart) []
 
@@ -90,7 +108,7 @@ script_of setup hart = unwrap_or (slice_get setup.lines hart) []
 abbrev pub line_count : SetupParts → ℕ → ℕ
 line_count setup actor = if actor == setup.harts then length setup.attacker else length (script_of setup actor)
 
--- the enclave image that an image of a setup is
+-- the image of the flat machine that an image of a setup is
 abbrev pub flat_page : ImagePage → flat.Page
 flat_page page = record { perms = page.perms; bytes = page.bytes }
 
@@ -103,6 +121,10 @@ image_at setup image = option_map flat_image (slice_get setup.images image)
 
 abbrev pub with_number : Monitor → ℕ → Number → Monitor
 with_number s e now = record s { number = λ f. if f == e then now else s.number f }
+
+-- these pages belong to one owner now
+abbrev pub with_owner : Monitor → List ℕ → Owner → Monitor
+with_owner s pages now = record s { owner = λ page. if is_among pages page then Some now else s.owner page }
 
 abbrev pub with_progress : Monitor → ℕ → Progress → Monitor
 with_progress s actor now = record s { progress = λ other. if other == actor then now else s.progress other }

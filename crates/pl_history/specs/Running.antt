@@ -1,53 +1,78 @@
 -- Running enclaves: `run` and `resume`, and when a run may leave its enclave, and why.
-use Rattle.std.specs.Prelude.{◌≡◌, ℕ, ◌+◌, ◌≤◌, ◌==◌, Bool, true, false, not, List, [], ◌∷◌, Option, Some, None}
+use Rattle.std.specs.Prelude.{◌≡◌, ℕ, ◌+◌, ◌≤◌, ◌==◌, ◌&&◌, Bool, true, false, not, List, [], ◌∷◌, length, Option, Some, None}
+use Rattle.pl_base.specs.declared.place.Place.{Place}
 use Rattle.pl_base.specs.declared.refusal.No.{No}
 use Rattle.pl_base.specs.declared.refusal.No.TheVariants.{NoEnclave, WrongState}
 use Rattle.pl_base.specs.declared.state.State.{State}
 use Rattle.pl_base.specs.declared.state.State.TheVariants.{On}
 use Rattle.pl_base.specs.declared.state.Why.{Why}
-use Rattle.pl_base.specs.declared.state.Why.TheVariants.{Ended, Budget, Waiting, OutFull, Trapped}
+use Rattle.pl_base.specs.declared.state.Why.TheVariants.{Ended, Budget, Waiting, OutFull, NeedPage, Trapped, Fault}
+use Rattle.pl_base.specs.Pages.{is_among}
 use Rattle.pl_base.specs.Refusals.{refuse, first_refusal}
 use Rattle.pl_base.specs.States.{is_absent, state_left}
 use Rattle.rv_alone.specs.Flat.{Image, Flat, Status, on, ended}
-use Rattle.rv_alone.specs.Alone.{Outcome, trap, wait, full, next, one, alone}
+use Rattle.rv_alone.specs.Alone.{Outcome, trap, wait, full, next, one, alone, page_written, written_pages}
 use Rattle.pl_history.specs.declared.answer.Answer.{Answer}
 use Rattle.pl_history.specs.declared.answer.Answer.TheVariants as answer_is
+use Rattle.pl_history.specs.declared.line.Line.{Line}
 use Rattle.pl_history.specs.declared.setup.SetupParts.{SetupParts}
+use Rattle.pl_history.specs.Answering.{Begins}
+use Rattle.pl_history.specs.Licence.{Licensed}
 use Rattle.pl_history.specs.Monitor.{Number, Monitor, image_at, with_number}
 
--- why an enclave can't go on by its next instruction, where it can't
-abbrev pub obstacle : Outcome → Option Why
-obstacle (trap cause value) = Some (Trapped cause value)
-obstacle wait = Some Waiting
-obstacle full = Some OutFull
-obstacle (next a) = None
+-- ---- why a run leaves
 
--- an end comes before a spent budget, and this before the next instruction
-abbrev pub reason : Status → Bool → Outcome → Option Why
-reason (ended code) spent outcome = Some (Ended code)
-reason on true outcome = Some Budget
-reason on false outcome = obstacle outcome
+-- a forked number needs a page: its next instruction stores to a page of its image that it hasn't written, and it has written as many
+-- as it has spares
+abbrev pub needs_page : Option ℕ → List ℕ → List ℕ → Option ℕ → Bool
+needs_page (Some parent) spares written (Some page) = not (is_among written page) && length written == length spares
+needs_page _ spares written page = false
 
--- The image with these words sent to it, run alone for so many instructions before this run, may leave it after so many
--- more, for this reason.
-abbrev pub MayLeave : Image → List ℕ → ℕ → ℕ → ℕ → Why → Type 0
-MayLeave image sent retired budget count why =
-    (count ≤ budget) × ((a : Flat) × (alone image sent (retired + count) ≡ Some a) × (reason a.status (count == budget) (one a sent) ≡ Some why))
+-- why an enclave can't go on by what its next instruction comes to, where it can't, by whether it needs a page for that
+abbrev pub obstacle : Bool → Outcome → Option Why
+obstacle needs (trap cause value) = Some (Trapped cause value)
+obstacle needs wait = Some Waiting
+obstacle needs full = Some OutFull
+obstacle true (next a) = Some NeedPage
+obstacle false (next a) = None
+
+-- An enclave that has ended leaves so, then one whose budget is spent; else it leaves by a fault of a licensed place, or by what keeps
+-- it from going on.
+abbrev pub EndsBy : Status → Bool → Option Why → (Place → Type 0) → Why → Type 0
+EndsBy (ended code) spent obstacle Licensed why = why ≡ Ended code
+EndsBy on true obstacle Licensed why = why ≡ Budget
+EndsBy on false obstacle Licensed (Fault place) = Licensed place
+EndsBy on false obstacle Licensed why = obstacle ≡ Some why
+
+-- what keeps a number from going on, of its image run alone for so many instructions
+abbrev pub obstacle_of : Image → Number → ℕ → Flat → Option Why
+obstacle_of image n count a =
+    obstacle (needs_page n.parent n.spares (written_pages image n.sent count) (page_written a.status a)) (one a n.sent)
+
+-- A number of this image may leave its run so many instructions after the last one left, for this reason: as the image run alone, with
+-- the words sent to it, for all instructions since it was made.
+abbrev pub MayLeave : Image → (Place → Type 0) → Number → ℕ → ℕ → Why → Type 0
+MayLeave image Licensed n budget count why =
+    (count ≤ budget)
+    × ((a : Flat) × (alone image n.sent (n.retired + count) ≡ Some a)
+    × EndsBy a.status (count == budget) (obstacle_of image n (n.retired + count) a) Licensed why)
+
+-- ---- the answers
 
 -- why a number can't be run: there is no enclave, or its state isn't the one that the line needs
 abbrev pub run_refusal : (State → Bool) → State → Option No
 run_refusal may_run state = first_refusal (refuse (is_absent state) NoEnclave ∷ refuse (not (may_run state)) (WrongState state) ∷ [])
 
--- an enclave leaves as its image run alone may
-abbrev pub MayLeaveNumber : SetupParts → Number → ℕ → ℕ → Why → Type 0
-MayLeaveNumber setup n budget count why = (image : Image) × (image_at setup n.image ≡ Some image) × MayLeave image n.sent n.retired budget count why
+-- a begun line leaves its enclave
+abbrev pub Leaves : SetupParts → (Place → Type 0) → Number → ℕ → Answer → Type 0
+Leaves setup Licensed n budget (answer_is.Left count why) =
+    (image : Image) × (image_at setup n.image ≡ Some image) × MayLeave image Licensed n budget count why
+Leaves setup Licensed n budget now = ⊥
 
--- begun where nothing refuses it, and then left
-abbrev pub AllowedRun : SetupParts → (State → Bool) → Number → ℕ → Bool → Answer → Type 0
-AllowedRun setup may_run n budget false answer_is.Begun = run_refusal may_run n.state ≡ None
-AllowedRun setup may_run n budget false (answer_is.No cause) = run_refusal may_run n.state ≡ Some cause
-AllowedRun setup may_run n budget true (answer_is.Left count why) = MayLeaveNumber setup n budget count why
-AllowedRun setup may_run n budget _ _ = ⊥
+abbrev pub AllowedRun : SetupParts → Monitor → Line → (State → Bool) → ℕ → ℕ → Bool → Answer → Type 0
+AllowedRun setup s line may_run e budget = Begins (run_refusal may_run (s.number e).state) (Leaves setup (Licensed setup s line) (s.number e) budget)
+
+-- ---- what they change
 
 abbrev pub entered : Monitor → ℕ → ℕ → Monitor
 entered s hart e = with_number s e (record (s.number e) { state = On; hart = hart })

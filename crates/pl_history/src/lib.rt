@@ -3,12 +3,14 @@
 
 mod answer;
 mod history;
+mod laws;
 mod line;
 mod printing;
 mod setup;
 
 pub use answer::{Answer, Entry};
 pub use history::History;
+pub use laws::{added_bytes_leave_histories, histories_grow_by_entries};
 pub use line::{AttackLine, Line};
 pub use printing::{put_done, put_entry, put_history, put_output};
 pub use setup::{ChoiceName, Setup, SetupParts};

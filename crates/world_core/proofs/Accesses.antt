@@ -13,7 +13,7 @@ use Rattle.pl_base.specs.declared.page.TheConstants.{IMAGE_START}
 use Rattle.pl_base.specs.Perms.{grants}
 use Rattle.mon_image.specs.declared.page.ImagePage.{ImagePage}
 use Rattle.rv_alone.specs.Flat.{Page, page_number, number_in, with_number, permitted, stored}
-use Rattle.pl_history.specs.Making.{is_in}
+use Rattle.pl_base.specs.Pages.{is_among}
 use Rattle.world_core.specs.Memory.{bytes_of}
 use Rattle.world_core.specs.Pages.{flat_pages, page_for, located, AreApart}
 use Rattle.world_core.proofs.Lists.{get-set_same, get-set_other, or_true}
@@ -115,18 +115,18 @@ page_among k true (Some page) number n is_n = elim (cases_Bool (grants page.perm
   | inr may_not ↦ (let h : None ≡ Some n = rw may_not at is_n in cc)
 ]
 
-pub is_in_at : (numbers : List ℕ) (i n : ℕ) → slice_get numbers i ≡ Some n → is_in numbers n ≡ true
+pub is_in_at : (numbers : List ℕ) (i n : ℕ) → slice_get numbers i ≡ Some n → is_among numbers n ≡ true
 is_in_at [] i n here = cc
 is_in_at (m ∷ numbers) zero n here = let e : m ≡ n = cc in rw e (head_is n numbers)
   where
-    head_is : (n : ℕ) (numbers : List ℕ) → (eqb n n || is_in numbers n) ≡ true
+    head_is : (n : ℕ) (numbers : List ℕ) → (eqb n n || is_among numbers n) ≡ true
     head_is n numbers = grind (arith, nat_tests)
 is_in_at (m ∷ numbers) (suc i) n here = rw (is_in_at numbers i n here) (or_true (eqb m n))
 
-pub located_among : (k : Kind) (image : List ImagePage) (numbers : List ℕ) (address n page : ℕ) → located k image numbers address ≡ Some n → is_in numbers page ≡ false → page ≢ n
+pub located_among : (k : Kind) (image : List ImagePage) (numbers : List ℕ) (address n page : ℕ) → located k image numbers address ≡ Some n → is_among numbers page ≡ false → page ≢ n
 located_among k image numbers address n page is_n outside same =
     let inside = is_in_at numbers (page_number address) n (page_among k (leb IMAGE_START address) (slice_get image (page_number address)) (slice_get numbers (page_number address)) n is_n) in
-    false≢true (sym outside ∙ ap (is_in numbers) same ∙ inside)
+    false≢true (sym outside ∙ ap (is_among numbers) same ∙ inside)
 
 -- the store of the flat machine, by the page that is there
 abbrev pub changed : List (List ℕ) → List ImagePage → List ℕ → ℕ → ℕ → ℕ → ℕ → List Page

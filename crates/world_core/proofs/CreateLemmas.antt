@@ -8,17 +8,19 @@ use Rattle.std.proofs.lemmas.Option.{slice_get_within, slice_get-get_or}
 use Rattle.std.specs.Option.{option_map_or}
 use Rattle.mon_image.specs.declared.image.Image.{Image}
 use Rattle.pl_base.specs.declared.refusal.No.{No}
-use Rattle.pl_base.specs.declared.refusal.No.TheVariants.{Exists, Count, Twice, NotYours}
+use Rattle.pl_base.specs.declared.refusal.No.TheVariants.{Exists, Count, Twice, NotYours, StillMapped}
 use Rattle.pl_base.specs.declared.state.State.{State}
 use Rattle.pl_base.specs.declared.state.State.TheVariants as state_is
 use Rattle.pl_base.specs.Refusals.{refuse, first_refusal}
 use Rattle.pl_base.specs.States.{is_free}
 use Rattle.pl_history.specs.declared.setup.SetupParts.{SetupParts}
-use Rattle.pl_history.specs.Monitor.{Monitor}
-use Rattle.pl_history.specs.Making.{is_host, page_count, first_twice, first_not_host, create_refusal}
+use Rattle.pl_history.specs.Monitor.{Monitor, is_host}
+use Rattle.pl_history.specs.Making.{page_count, first_twice, first_not_host, first_mapped, create_refusal}
 use Rattle.world_core.specs.declared.owners.Owner.{Owner as Kept}
 use Rattle.world_core.specs.Owners.{owner_kept, owner_of}
 use Rattle.world_core.specs.Pages.{AreApart}
+use Rattle.world_core.specs.declared.world.World.{World}
+use Rattle.world_core.specs.Worlds.{monitor_of}
 
 first_none : (x : Option No) (later : List (Option No)) → first_refusal (x ∷ later) ≡ None → (x ≡ None) × (first_refusal later ≡ None)
 first_none None later e = (refl, e)
@@ -108,6 +110,19 @@ pub hosts_within : (owners : List Kept) (pages : List ℕ) → find (λ page. no
 hosts_within owners pages none i d below =
     host_within owners _ (slice_get owners _) refl (not_false _ (find_none (λ page. not (is_host (owner_of owners page))) pages i _ none (slice_get-get_or pages i d below)))
 
+-- no page of a list is mapped where none is
+find_false : (pages : List ℕ) → find (λ (page : ℕ). false) pages ≡ None
+find_false [] = refl
+find_false (page ∷ pages) = find_false pages
+
+pub none_mapped : (w : World) (at : ℕ) (pages : List ℕ) → first_mapped (monitor_of w at) pages ≡ None
+none_mapped w at pages = find_false pages
+
+pub no_cause : (a b : Option ℕ) → a ≡ None → b ≡ None → None ≡ first_refusal (option_map NotYours a ∷ option_map StillMapped b ∷ [])
+no_cause None None e f = refl
+no_cause None (Some x) e f = cc
+no_cause (Some x) b e f = cc
+
 -- nothing refuses it
 pub record MayCreate (setup : SetupParts) (s : Monitor) (e number : ℕ) (pages : List ℕ) : Type 0 where
   pub free : (s.number e).state ≡ state_is.Free
@@ -120,7 +135,7 @@ may_create setup s e number pages none =
     let first = first_none (refuse (not (is_free (s.number e).state)) Exists) _ none in
     let second = first_none (refuse (not (eqb (length pages) (page_count setup number))) Count) _ first.1 in
     let third = first_none (option_map Twice (first_twice pages)) _ second.1 in
-    let fourth = first_none (option_map NotYours (first_not_host s pages)) [] third.1 in
+    let fourth = first_none (option_map NotYours (first_not_host s pages)) _ third.1 in
     record {
       free = free_state (s.number e).state (not_false _ (refuse_none _ Exists first.0));
       count = eqb-true _ _ (not_false _ (refuse_none _ Count second.0));

@@ -4,7 +4,7 @@ use Rattle.std.proofs.lemmas.Bool.{cases_Bool, eqb-true, eqb-false}
 use Rattle.std.proofs.lemmas.Option.{same_Some}
 use Rattle.mon_image.specs.declared.page.ImagePage.{ImagePage}
 use Rattle.pl_history.specs.Monitor.{flat_page}
-use Rattle.pl_history.specs.Making.{is_in}
+use Rattle.pl_base.specs.Pages.{is_among}
 use Rattle.world_core.specs.Pages.{flat_pages, AreApart, SameOutside}
 use Rattle.world_core.proofs.Lists.{get-set_same, get-set_other}
 use Rattle.world_core.proofs.Accesses.{is_in_at}
@@ -40,4 +40,4 @@ all_put memory (p ∷ image) (page ∷ pages) same put =
 -- memory outside of all pages stays when one of them is put
 pub outside_more : (old memory : List (List ℕ)) (pages : List ℕ) (at here : ℕ) (bytes : List ℕ) → SameOutside pages old memory → slice_get pages at ≡ Some here → SameOutside pages old (set memory here bytes)
 outside_more old memory pages at here bytes so_far is_here page outside =
-    get-set_other memory here page bytes (λ e. false≢true (sym outside ∙ ap (is_in pages) e ∙ is_in_at pages at here is_here)) ∙ so_far page outside
+    get-set_other memory here page bytes (λ e. false≢true (sym outside ∙ ap (is_among pages) e ∙ is_in_at pages at here is_here)) ∙ so_far page outside

@@ -55,22 +55,23 @@ module _ (setup : SetupParts) (w : World) (entries : List Entry) (at : ℕ) (lin
   pub one_answer : (now : Answer) (w_new : World) → AllowedAnswer setup (monitor_of w at) line false now → after_answer (monitor_of w at) 0 line now ≡ monitor_of w_new (at + 1) → Stands setup w_new (at + 1)
       → Follows setup w_new (entries ++ entry_of at now ∷ []) (at + 1)
   one_answer now w_new allowed is_after stands =
-      let next = extended setup entries (monitor_of w at) so_far_is 0 at line now (record { script = here; first = refl; allowed = allowed }) in
-      record { legal = next.legal; state = next.state ∙ is_after; stands = stands }
+      let next = extended setup entries (monitor_of w at) so_far_is 0 at line now (record { hart = so_far.hart; script = here; first = refl; allowed = allowed }) in
+      record { hart = so_far.hart; legal = next.legal; state = λ bytes. next.state bytes ∙ is_after; stands = stands }
 
   pub two_answers : (last : Answer) (middle : Monitor) (w_new : World) → AllowedAnswer setup (monitor_of w at) line false answer_is.Begun
       → after_answer (monitor_of w at) 0 line answer_is.Begun ≡ middle → middle.progress 0 ≡ record { answered = at; begun = true }
       → AllowedAnswer setup middle line true last → after_answer middle 0 line last ≡ monitor_of w_new (at + 1) → Stands setup w_new (at + 1)
       → Follows setup w_new ((entries ++ entry_of at answer_is.Begun ∷ []) ++ entry_of at last ∷ []) (at + 1)
   two_answers last middle w_new allowed is_middle progress allowed_last is_last stands =
-      let begun = extended setup entries (monitor_of w at) so_far_is 0 at line answer_is.Begun (record { script = here; first = refl; allowed = allowed }) in
-      let at_middle : Extended setup (entries ++ entry_of at answer_is.Begun ∷ []) middle = record { legal = begun.legal; state = begun.state ∙ is_middle } in
+      let begun = extended setup entries (monitor_of w at) so_far_is 0 at line answer_is.Begun (record { hart = so_far.hart; script = here; first = refl; allowed = allowed }) in
+      let at_middle : Extended setup (entries ++ entry_of at answer_is.Begun ∷ []) middle = record { legal = begun.legal; state = λ bytes. begun.state bytes ∙ is_middle } in
       let done = extended setup (entries ++ entry_of at answer_is.Begun ∷ []) middle at_middle 0 at line last (record {
+        hart = so_far.hart;
         script = here;
         first = sym (ap (λ (p : Progress). p.answered) progress);
         allowed = subst (λ b. AllowedAnswer setup middle line b last) (sym (ap (λ (p : Progress). p.begun) progress)) allowed_last;
       }) in
-      record { legal = done.legal; state = done.state ∙ is_last; stands = stands }
+      record { hart = so_far.hart; legal = done.legal; state = λ bytes. done.state bytes ∙ is_last; stands = stands }
 
   -- a refusal changes the progress alone
   pub refused : (cause : No) → AllowedAnswer setup (monitor_of w at) line false (answer_is.No cause) → after_answer (monitor_of w at) 0 line (answer_is.No cause) ≡ answer (monitor_of w at) 0
@@ -184,7 +185,7 @@ module _ (setup : SetupParts) (w : World) (entries : List Entry) (at : ℕ) (e :
       → Follows setup (record { owners = w.owners; memory = w.memory; enclaves = all }) (entries ++ entry_of at answer_is.Ok ∷ []) (at + 1)
   word_sent word all here allowed is_all =
       let r : Enclave = record r_of { sent = r_of.sent ++ word ∷ [] } in
-      one_answer setup w entries at (Send e word) so_far here answer_is.Ok (record { owners = w.owners; memory = w.memory; enclaves = all }) (sym allowed)
+      one_answer setup w entries at (Send e word) so_far here answer_is.Ok (record { owners = w.owners; memory = w.memory; enclaves = all }) (sym allowed, refl)
       (λ i. record (monitor_of w at) {
         number = λ f. numbers_with setup w at so_far.stands e.0 below all r is_all (number_of r) refl f i;
         progress = λ actor. next_answered at (eqb actor 0) i;
@@ -227,7 +228,7 @@ module _ (setup : SetupParts) (w : World) (entries : List Entry) (at : ℕ) (e :
       let worded = wordless_not (refuse (eqb r_of.taken r_of.shown) Empty) (sym allowed) in
       let not_free_now = not_wordless r_of.state worded in
       one_answer setup w entries at (Take e) so_far here (answer_is.Word word) (record { owners = w.owners; memory = w.memory; enclaves = all })
-      (refusals_agree ∙ sym allowed, ap (λ out. slice_get out r_of.taken) (out_is not_free_now) ∙ sym is_word)
+      (refusals_agree ∙ sym allowed, ap (λ out. option_map answer_is.Word (slice_get out r_of.taken)) (out_is not_free_now) ∙ ap (option_map answer_is.Word) (sym is_word))
       (λ i. record (monitor_of w at) {
         number = λ f. numbers_with setup w at so_far.stands e.0 below all r is_all (number_of r) refl f i;
         progress = λ actor. next_answered at (eqb actor 0) i;

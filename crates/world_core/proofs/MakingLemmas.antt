@@ -2,30 +2,37 @@
 use Rattle.std.proofs.Common.{◌≡◌, ◌≢◌, ℕ, zero, suc, ◌+◌, ◌*◌, ◌≤◌, ◌<◌, ◌%◌, eqb, Bool, true, false, not, if◌then◌else◌, ◌&&◌, List, [], ◌∷◌, ◌++◌, length, slice_get, Some, None, refl, ap, sym, ◌∙◌, subst, arith, inl, inr, length-set}
 use Rattle.std.specs.List.{list_all}
 use Rattle.std.proofs.lemmas.List.{length-map}
+use Rattle.std.proofs.lemmas.Option.{same_Some}
 use Rattle.std.proofs.lemmas.Bool.{cases_Bool, eqb-true, eqb-false, false≢true}
 use Rattle.pl_base.specs.declared.number.EncNo.{EncNo}
 use Rattle.pl_base.specs.declared.refusal.No.{No}
 use Rattle.pl_base.specs.declared.refusal.No.TheVariants.{NoEnclave, WrongState}
 use Rattle.pl_base.specs.declared.state.State.{State}
 use Rattle.pl_base.specs.declared.state.State.TheVariants as state_is
+use Rattle.pl_base.specs.declared.place.Place.{Place}
 use Rattle.pl_base.specs.declared.state.Why.{Why}
+use Rattle.pl_base.specs.declared.state.Why.TheVariants as why_is
 use Rattle.pl_base.specs.States.{is_free, is_fresh, is_paused, is_absent, state_left}
 use Rattle.mon_image.specs.declared.image.Image.{Image}
 use Rattle.mon_enclave.specs.declared.enclave.Enclave.{Enclave}
 use Rattle.mon_enclave.specs.Records.{enclave_at, built}
-use Rattle.rv_alone.specs.Flat.{start_of, start_registers, on}
+use Rattle.rv_alone.specs.Flat.{start_of, start_registers, Status, on, ended}
+use Rattle.rv_alone.specs.Alone.{Outcome, trap, wait, full, next, one, page_written, written_pages}
 use Rattle.rv_alone.proofs.AloneLemmas.{alone_none}
 use Rattle.pl_history.specs.declared.line.Line.TheVariants.{Create, Run, Resume}
 use Rattle.pl_history.specs.declared.answer.Answer.TheVariants as answer_is
 use Rattle.pl_history.specs.declared.answer.Entry.{Entry}
 use Rattle.pl_history.specs.declared.setup.SetupParts.{SetupParts}
 use Rattle.pl_history.specs.Rules.{IsSetup, is_image, is_entry}
-use Rattle.pl_history.specs.Monitor.{Number, Monitor, number, free_number, script_of, flat_image, flat_page, begin, answer}
-use Rattle.pl_history.specs.Making.{create_refusal, building, is_in, is_host}
-use Rattle.pl_history.specs.Running.{run_refusal, entered, left, MayLeaveNumber}
+use Rattle.pl_history.specs.Monitor.{Number, Monitor, number, is_host, freed, script_of, flat_image, flat_page, begin, answer}
+use Rattle.pl_base.specs.Pages.{is_among}
+use Rattle.pl_history.specs.Making.{create_refusal, building}
+use Rattle.pl_history.specs.Running.{needs_page, EndsBy, obstacle, Leaves, run_refusal, entered, left}
 use Rattle.world_core.specs.declared.world.World.{World}
 use Rattle.world_core.specs.Owners.{owner_of}
 use Rattle.world_core.specs.Pages.{flat_pages, AreApart}
+use Rattle.pl_history.specs.Licence.{Licensed}
+use Rattle.world_core.specs.Steps.{reason, LeavesAlone}
 use Rattle.world_core.specs.Worlds.{number_of, monitor_of, is_ready, EnclaveStands, Stands, Created, Left, Follows, entry_of, run_line}
 use Rattle.world_core.proofs.StepLemmas.{enclave_is}
 use Rattle.world_core.proofs.WorldLemmas.{other_record, stands_still}
@@ -52,11 +59,11 @@ entry_aligned setup i image rules here =
 
 -- ---- `create`
 
-in_list : (pages : List ℕ) (page : ℕ) → is_in pages page ≡ true → (i : ℕ) × (slice_get pages i ≡ Some page)
+in_list : (pages : List ℕ) (page : ℕ) → is_among pages page ≡ true → (i : ℕ) × (slice_get pages i ≡ Some page)
 in_list [] page e = cc
 in_list (p ∷ pages) page e = elim (cases_Bool (eqb p page)) [
   | inl same ↦ (0, ap Some (eqb-true p page same))
-  | inr other ↦ (let rest : is_in pages page ≡ true = rw other at e in let found = in_list pages page rest in (suc found.0, found.1))
+  | inr other ↦ (let rest : is_among pages page ≡ true = rw other at e in let found = in_list pages page rest in (suc found.0, found.1))
 ]
 
 module _ (setup : SetupParts) (w w_new : World) (entries : List Entry) (at : ℕ) (e : EncNo) (image_number : ℕ) (pages : List ℕ) (rules : IsSetup setup) (so_far : Follows setup w entries at)
@@ -68,13 +75,13 @@ module _ (setup : SetupParts) (w w_new : World) (entries : List Entry) (at : ℕ
   new_is = enclave_is w.enclaves w_new.enclaves e.0 r_new below done.enclaves
 
   -- the pages were the host's
-  were_hosts : (page : ℕ) → is_in pages page ≡ true → is_host (owner_of w.owners page) ≡ true
+  were_hosts : (page : ℕ) → is_among pages page ≡ true → is_host (owner_of w.owners page) ≡ true
   were_hosts page here =
       let found = in_list pages page here in
       not_false _ (find_none (λ p. not (is_host (owner_of w.owners p))) pages found.0 page (may_create setup (monitor_of w 0) e.0 image_number pages allowed).hosts found.1)
 
-  not_taken_page : (f page : ℕ) → owner_of w.owners page ≡ Some (number f) → is_in pages page ≡ false
-  not_taken_page f page owned = elim (cases_Bool (is_in pages page)) [
+  not_taken_page : (f page : ℕ) → owner_of w.owners page ≡ Some (number f) → is_among pages page ≡ false
+  not_taken_page f page owned = elim (cases_Bool (is_among pages page)) [
     | inl taken ↦ absurd (false≢true (ap is_host (sym owned) ∙ were_hosts page taken))
     | inr free ↦ free
   ]
@@ -84,7 +91,7 @@ module _ (setup : SetupParts) (w w_new : World) (entries : List Entry) (at : ℕ
     image = done.image;
     image_is = done.image_is;
     apart = subst AreApart (sym (own_numbers pages)) done.apart;
-    owned = λ page here. (let taken : is_in pages page ≡ true = subst (λ ps. is_in ps page ≡ true) (own_numbers pages) here in done.owners page ∙ rw taken refl);
+    owned = λ page here. (let taken : is_among pages page ≡ true = subst (λ ps. is_among ps page ≡ true) (own_numbers pages) here in done.owners page ∙ rw taken refl);
     aligned = entry_aligned setup image_number done.image rules done.image_is;
     now = start_of (flat_image done.image);
     alone_is = alone_none (flat_image done.image) [];
@@ -129,14 +136,14 @@ module _ (setup : SetupParts) (w w_new : World) (entries : List Entry) (at : ℕ
   }
 
   abbrev number_building : Number
-  number_building = record free_number { state = state_is.Building; image = image_number; pages = pages }
+  number_building = record (freed (number_of (enclave_at w.enclaves e.0))) { state = state_is.Building; image = image_number; pages = pages }
 
   number_made : record number_building { state = state_is.Fresh; live = true } ≡ number_of (enclave_at w_new.enclaves e.0)
   number_made =
       (λ i. record {
         state = state_is.Fresh;
         live = true;
-        hart = sym (so_far.stands.harts e.0) i;
+        hart = (enclave_at w.enclaves e.0).hart.0;
         image = image_number;
         pages = sym (own_numbers pages) i;
         spares = [];
@@ -148,7 +155,7 @@ module _ (setup : SetupParts) (w w_new : World) (entries : List Entry) (at : ℕ
 
   pub created : slice_get (script_of setup 0) at ≡ Some (Create e image_number pages) → Follows setup w_new ((entries ++ entry_of at answer_is.Begun ∷ []) ++ entry_of at answer_is.Ok ∷ []) (at + 1)
   created here =
-      two_answers setup w entries at (Create e image_number pages) so_far here answer_is.Ok (begin (building (monitor_of w at) e.0 image_number pages) 0) w_new allowed refl refl tt
+      two_answers setup w entries at (Create e image_number pages) so_far here answer_is.Ok (begin (building (monitor_of w at) e.0 image_number pages) 0) w_new allowed refl refl refl
       (λ i. record (monitor_of w at) {
         owner = λ page. sym (done.owners page) i;
         number = λ f. number_twice e.0 f (λ n. record n { state = state_is.Fresh; live = true }) number_building (λ g. number_of (enclave_at w.enclaves g)) (λ g. number_of (enclave_at w_new.enclaves g))
@@ -201,6 +208,36 @@ none_ready may s none = elim (cases_Bool (may s)) [
 pub may_run : (first : Bool) (s : State) → run_refusal (needs first) s ≡ None → is_ready s ≡ true
 may_run first s none = ready_by first s (none_ready (needs first) s none)
 
+ends_by : (Licensed : Place → Type 0) (status : Status) (spent : Bool) (outcome : Outcome) (why : Why) → reason status spent outcome ≡ Some why → EndsBy status spent (obstacle false outcome) Licensed why
+ends_by Licensed (ended code) spent outcome why is = sym (same_Some (why_is.Ended code) why is)
+ends_by Licensed on true outcome why is = sym (same_Some why_is.Budget why is)
+ends_by Licensed on false outcome (why_is.Ended code) is = is
+ends_by Licensed on false outcome why_is.Budget is = is
+ends_by Licensed on false outcome why_is.Waiting is = is
+ends_by Licensed on false outcome why_is.OutFull is = is
+ends_by Licensed on false outcome why_is.NeedPage is = is
+ends_by Licensed on false outcome (why_is.Trapped cause value) is = is
+ends_by Licensed on false (trap cause value) (why_is.Fault place) is = cc
+ends_by Licensed on false wait (why_is.Fault place) is = cc
+ends_by Licensed on false full (why_is.Fault place) is = cc
+ends_by Licensed on false (next a) (why_is.Fault place) is = cc
+
+-- a number that isn't forked may leave as its image run alone does
+leaves_alone : (setup : SetupParts) (Licensed : Place → Type 0) (n : Number) → n.parent ≡ None → (budget count : ℕ) (why : Why) → LeavesAlone setup n budget count why → Leaves setup Licensed n budget (answer_is.Left count why)
+leaves_alone setup Licensed n alone_is budget count why (image, here, within, a, state, why_here) = (
+  image,
+  here,
+  (
+    within,
+    (
+      a,
+      state,
+      subst (λ parent. EndsBy a.status (eqb count budget) (obstacle (needs_page parent n.spares (written_pages image n.sent (n.retired + count)) (page_written a.status a)) (one a n.sent)) Licensed why)
+          (sym alone_is) (ends_by Licensed a.status (eqb count budget) (one a n.sent) why why_here),
+    ),
+  ),
+)
+
 module _ (setup : SetupParts) (w w_new : World) (entries : List Entry) (at : ℕ) (e : EncNo) (budget count : ℕ) (why : Why) (so_far : Follows setup w entries at)
     (below : e.0 < length w.enclaves) (done : Left setup e.0 budget count why at w w_new) where
   abbrev number_on : Number
@@ -215,8 +252,8 @@ module _ (setup : SetupParts) (w w_new : World) (entries : List Entry) (at : ℕ
   on_now : middle.number e.0 ≡ number_on
   on_now = rw (same_eqb e.0) refl
 
-  may_leave : MayLeaveNumber setup (middle.number e.0) budget count why
-  may_leave = subst (λ n. MayLeaveNumber setup n budget count why) (sym on_now) done.leaves
+  may_leave : (Licensed : Place → Type 0) → Leaves setup Licensed (middle.number e.0) budget (answer_is.Left count why)
+  may_leave Licensed = subst (λ n. Leaves setup Licensed n budget (answer_is.Left count why)) (sym on_now) (leaves_alone setup Licensed number_on refl budget count why done.leaves)
 
   is_left : answer (left middle e.0 count why) 0 ≡ monitor_of w_new (at + 1)
   is_left = λ i. record (monitor_of w at) {
@@ -228,8 +265,8 @@ module _ (setup : SetupParts) (w w_new : World) (entries : List Entry) (at : ℕ
 
   pub ran : (first : Bool) → slice_get (script_of setup 0) at ≡ Some (run_line first e budget) → run_refusal (needs first) (enclave_at w.enclaves e.0).state ≡ None
       → Follows setup w_new ((entries ++ entry_of at answer_is.Begun ∷ []) ++ entry_of at (answer_is.Left count why) ∷ []) (at + 1)
-  ran true here allowed = two_answers setup w entries at (Run e budget) so_far here (answer_is.Left count why) middle w_new allowed refl refl may_leave is_left done.stands
-  ran false here allowed = two_answers setup w entries at (Resume e budget) so_far here (answer_is.Left count why) middle w_new allowed refl refl may_leave is_left done.stands
+  ran true here allowed = two_answers setup w entries at (Run e budget) so_far here (answer_is.Left count why) middle w_new allowed refl refl (may_leave (Licensed setup middle (Run e budget))) is_left done.stands
+  ran false here allowed = two_answers setup w entries at (Resume e budget) so_far here (answer_is.Left count why) middle w_new allowed refl refl (may_leave (Licensed setup middle (Resume e budget))) is_left done.stands
 
 pub not_run : (setup : SetupParts) (w : World) (entries : List Entry) (at : ℕ) (e : EncNo) (budget : ℕ) (cause : No) → Follows setup w entries at → (first : Bool)
     → slice_get (script_of setup 0) at ≡ Some (run_line first e budget) → Some cause ≡ run_refusal (needs first) (enclave_at w.enclaves e.0).state → Follows setup w (entries ++ entry_of at (answer_is.No cause) ∷ []) (at + 1)

@@ -11,7 +11,7 @@ use Rattle.rv_alone.specs.Flat.{on, ended}
 use Rattle.rv_alone.specs.Alone.{one, alone}
 use Rattle.rv_alone.proofs.AloneLemmas.{alone_more}
 use Rattle.pl_history.specs.Monitor.{flat_image}
-use Rattle.pl_history.specs.Running.{reason}
+use Rattle.world_core.specs.Steps.{reason}
 use Rattle.world_core.specs.declared.step.Stepped.{Stepped}
 use Rattle.world_core.specs.declared.step.Stepped.TheVariants.{Retired, Ended}
 use Rattle.world_core.specs.Pages.{numbers_of, flat_of, SameOutside, AreApart}

@@ -12,7 +12,7 @@ use Rattle.pl_base.specs.States.{is_free}
 use Rattle.pl_history.specs.declared.line.Line.{Line}
 use Rattle.pl_history.specs.declared.answer.Entry.{Entry}
 use Rattle.pl_history.specs.declared.setup.SetupParts.{SetupParts}
-use Rattle.pl_history.specs.Rules.{IsSetup, guarded_of, pages_of, names_known}
+use Rattle.pl_history.specs.Rules.{IsSetup, is_within, guarded_of, pages_of, names_known}
 use Rattle.pl_history.specs.Monitor.{guard, host, Progress, Monitor, first_owner, opening, script_of, line_count}
 use Rattle.pl_history.specs.Legal.{AllAnswered}
 use Rattle.world_core.specs.declared.owners.Owner.TheVariants.{Guard, Host}
@@ -25,6 +25,10 @@ use Rattle.world_core.proofs.UnbuiltLemmas.{one_hart, no_attacker}
 use Rattle.world_core.proofs.MakingLemmas.{each_holds}
 
 -- ---- the opening state
+
+first_hart : (harts : ℕ) → is_within 1 8 harts ≡ true → eqb 0 harts ≡ false
+first_hart zero within = cc
+first_hart (suc n) within = grind (arith, nat_tests)
 
 below_none : (p : ℕ) → ltb p 0 ≡ false
 below_none p = grind (arith, nat_tests)
@@ -98,7 +102,7 @@ module _ (setup : SetupParts) (w : World) (rules : IsSetup setup) (opens : Opens
 
   -- nothing is answered yet
   pub follows_none : (entries : List Entry) → entries ≡ [] → Follows setup w entries 0
-  follows_none entries none = subst (λ h. Follows setup w h 0) (sym none) (record { legal = tt; state = opening_is; stands = stands_opening })
+  follows_none entries none = subst (λ h. Follows setup w h 0) (sym none) (record { hart = first_hart setup.harts rules.harts; legal = λ bytes. tt; state = λ bytes. opening_is; stands = stands_opening })
 
 -- ---- the lines
 
@@ -132,9 +136,9 @@ script_there setup rules none = omega (arith, rules.scripts, one_hart setup none
 
 -- ---- the end
 
-pub all_answered : (setup : SetupParts) (w : World) (entries : List Entry) (at : ℕ) → IsSetup setup → first_unbuilt_of setup ≡ None → Follows setup w entries at → at ≡ length (script_of setup 0) → AllAnswered setup entries
-all_answered setup w entries at rules none follows whole actor =
-    ap (λ (s : Monitor). (s.progress actor).answered) follows.state ∙ by_actor actor
+pub all_answered : (setup : SetupParts) (w : World) (entries : List Entry) (at : ℕ) → IsSetup setup → first_unbuilt_of setup ≡ None → Follows setup w entries at → at ≡ length (script_of setup 0) → (bytes : List ℕ) → AllAnswered setup bytes entries
+all_answered setup w entries at rules none follows whole bytes actor =
+    ap (λ (s : Monitor). (s.progress actor).answered) (follows.state bytes) ∙ by_actor actor
   where
     by_actor : (actor : ℕ) → (if eqb actor 0 then at else 0) ≡ line_count setup actor
     by_actor zero = whole ∙ ap (λ h. if eqb 0 h then length setup.attacker else length (script_of setup 0)) (sym (one_hart setup none))

@@ -15,8 +15,8 @@ use Rattle.rv_alone.specs.Flat.{Flat, Status, on, ended}
 use Rattle.rv_alone.specs.Alone.{Outcome, one, alone}
 use Rattle.pl_history.specs.declared.setup.SetupParts.{SetupParts}
 use Rattle.pl_history.specs.Monitor.{Owner, number, flat_image}
-use Rattle.pl_history.specs.Making.{is_in}
-use Rattle.pl_history.specs.Running.{reason}
+use Rattle.pl_base.specs.Pages.{is_among}
+use Rattle.world_core.specs.Steps.{reason}
 use Rattle.world_core.specs.declared.owners.Owner.{Owner as Kept}
 use Rattle.world_core.specs.declared.world.World.{World}
 use Rattle.world_core.specs.Owners.{owner_kept, owner_of}
@@ -36,14 +36,14 @@ page_within owners page owner (Some kept) is e = slice_get_within owners page ke
 pub owned_within : (owners : List Kept) (page : ℕ) (owner : Owner) → owner_of owners page ≡ Some owner → page < length owners
 owned_within owners page owner e = page_within owners page owner (slice_get owners page) refl e
 
-pub all_within : (owners : List Kept) (numbers : List ℕ) (e : ℕ) → ((page : ℕ) → is_in numbers page ≡ true → owner_of owners page ≡ Some (number e)) → All (λ page. page < length owners) numbers
+pub all_within : (owners : List Kept) (numbers : List ℕ) (e : ℕ) → ((page : ℕ) → is_among numbers page ≡ true → owner_of owners page ≡ Some (number e)) → All (λ page. page < length owners) numbers
 all_within owners numbers e owned i d below =
     owned_within owners (get_or numbers i d) (number e) (owned (get_or numbers i d) (is_in_at numbers i (get_or numbers i d) (slice_get-get_or numbers i d below)))
 
 -- no page is of two numbers
-pub apart_numbers : (owners : List Kept) (ours theirs : List ℕ) (e f : ℕ) → ((page : ℕ) → is_in ours page ≡ true → owner_of owners page ≡ Some (number e))
-    → ((page : ℕ) → is_in theirs page ≡ true → owner_of owners page ≡ Some (number f)) → f ≢ e → (page : ℕ) → is_in theirs page ≡ true → is_in ours page ≡ false
-apart_numbers owners ours theirs e f owned_ours owned_theirs differ page here = elim (cases_Bool (is_in ours page)) [
+pub apart_numbers : (owners : List Kept) (ours theirs : List ℕ) (e f : ℕ) → ((page : ℕ) → is_among ours page ≡ true → owner_of owners page ≡ Some (number e))
+    → ((page : ℕ) → is_among theirs page ≡ true → owner_of owners page ≡ Some (number f)) → f ≢ e → (page : ℕ) → is_among theirs page ≡ true → is_among ours page ≡ false
+apart_numbers owners ours theirs e f owned_ours owned_theirs differ page here = elim (cases_Bool (is_among ours page)) [
   | inl both ↦
       let same : number f ≡ number e = same_Some (number f) (number e) (sym (owned_theirs page here) ∙ owned_ours page both) in
       absurd (differ (let h : f ≡ e = cc in h))
@@ -54,8 +54,8 @@ apart_numbers owners ours theirs e f owned_ours owned_theirs differ page here = 
 
 -- its pages have their bytes and their owner still
 pub record Untouched (old new : World) (numbers : List ℕ) : Type 0 where
-  pub bytes : (page : ℕ) → is_in numbers page ≡ true → slice_get new.memory page ≡ slice_get old.memory page
-  pub owner : (page : ℕ) → is_in numbers page ≡ true → owner_of new.owners page ≡ owner_of old.owners page
+  pub bytes : (page : ℕ) → is_among numbers page ≡ true → slice_get new.memory page ≡ slice_get old.memory page
+  pub owner : (page : ℕ) → is_among numbers page ≡ true → owner_of new.owners page ≡ owner_of old.owners page
 
 pub stands_still : (setup : SetupParts) (old new : World) (f : ℕ) (r : Enclave) → EnclaveStands setup old f r → Untouched old new (numbers_of r.pages) → EnclaveStands setup new f r
 stands_still setup old new f r stood untouched = record {
@@ -228,7 +228,7 @@ module _ (setup : SetupParts) (world : World) (e at : ℕ) (stood : Stands setup
       image = image;
       image_is = ap (slice_get setup.images) same_image ∙ before.image_is ∙ ap Some (sym (run_image image here));
       apart = subst (λ ps. AreApart (numbers_of ps)) (sym same_pages) before.apart;
-      owned = subst (λ ps. (page : ℕ) → is_in (numbers_of ps) page ≡ true → owner_of world.owners page ≡ Some (number e)) (sym same_pages) before.owned;
+      owned = subst (λ ps. (page : ℕ) → is_among (numbers_of ps) page ≡ true → owner_of world.owners page ≡ Some (number e)) (sym same_pages) before.owned;
       aligned = ap (λ (r : Enclave). r.context.pc % 4) left_is ∙ run.aligned;
       now = run.now;
       alone_is = ap (λ sent. alone (flat_image image) sent (enclave_at left e).retired) same_sent
@@ -243,7 +243,7 @@ module _ (setup : SetupParts) (world : World) (e at : ℕ) (stood : Stands setup
         let same = other_record world.enclaves left e f (enclave_at left e) left_all differ in
         let stood_f = stood.each f (ap (λ (r : Enclave). is_free r.state) (sym same) ∙ not_free) in
         subst (EnclaveStands setup new_world f) (sym same) (stands_still setup world new_world f (enclave_at world.enclaves f) stood_f (record {
-          bytes = λ page here. run.outside page (subst (λ ps. is_in (numbers_of ps) page ≡ false) (sym (ap (λ (r : Enclave). r.pages) entered_is))
+          bytes = λ page here. run.outside page (subst (λ ps. is_among (numbers_of ps) page ≡ false) (sym (ap (λ (r : Enclave). r.pages) entered_is))
               (apart_numbers world.owners (numbers_of (enclave_at world.enclaves e).pages) (numbers_of (enclave_at world.enclaves f).pages) e f before.owned stood_f.owned differ page here));
           owner = λ page here. refl;
         }))
@@ -274,7 +274,10 @@ module _ (setup : SetupParts) (world : World) (e at : ℕ) (stood : Stands setup
       leaves = (
         flat_image image,
         ap (λ n. option_map flat_image (slice_get setup.images n)) (sym (ap (λ (r : Enclave). r.image) entered_is)) ∙ ap (option_map flat_image) here,
-        (run.within, (run.now, alone_left, ap (λ sent. reason run.now.status (eqb count budget) (one run.now sent)) (sym sent_before) ∙ run.why_is)),
+        run.within,
+        run.now,
+        alone_left,
+        ap (λ sent. reason run.now.status (eqb count budget) (one run.now sent)) (sym sent_before) ∙ run.why_is,
       );
       enclaves = left_all;
       number = numbers_agree;

@@ -1,7 +1,7 @@
 -- Who owns each page, as the abstract monitor has it.
 use Rattle.std.specs.Prelude.{◌≡◌, ℕ, List, slice_get, Option, option_map, if◌then◌else◌, Some}
 use Rattle.pl_history.specs.Monitor.{Owner, guard, host, number}
-use Rattle.pl_history.specs.Making.{is_in}
+use Rattle.pl_base.specs.Pages.{is_among}
 use Rattle.world_core.specs.declared.owners.Owner.{Owner as Kept}
 use Rattle.world_core.specs.declared.owners.Owner.TheVariants.{Guard, Host, Enclave}
 
@@ -16,4 +16,4 @@ owner_of owners page = option_map owner_kept (slice_get owners page)
 
 -- these pages belong to a number now, and each other page to whom it did
 abbrev pub Takes : List ℕ → ℕ → List Kept → List Kept → Type 0
-Takes pages e old new = (page : ℕ) → owner_of new page ≡ (if is_in pages page then Some (number e) else owner_of old page)
+Takes pages e old new = (page : ℕ) → owner_of new page ≡ (if is_among pages page then Some (number e) else owner_of old page)

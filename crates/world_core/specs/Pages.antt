@@ -8,7 +8,7 @@ use Rattle.mon_enclave.specs.declared.enclave.PageKind.{PageKind}
 use Rattle.mon_enclave.specs.declared.enclave.Enclave.{Enclave}
 use Rattle.mon_enclave.specs.Records.{page_number_of}
 use Rattle.rv_alone.specs.Flat.{Page, Flat, on, page_number}
-use Rattle.pl_history.specs.Making.{is_in}
+use Rattle.pl_base.specs.Pages.{is_among}
 use Rattle.world_core.specs.Memory.{bytes_of}
 
 -- the numbers of an enclave's pages
@@ -48,4 +48,4 @@ AreApart numbers = (i j page : ℕ) → slice_get numbers i ≡ Some page → sl
 
 -- memory is the same outside of these pages
 abbrev pub SameOutside : List ℕ → List (List ℕ) → List (List ℕ) → Type 0
-SameOutside numbers old new = (page : ℕ) → is_in numbers page ≡ false → slice_get new page ≡ slice_get old page
+SameOutside numbers old new = (page : ℕ) → is_among numbers page ≡ false → slice_get new page ≡ slice_get old page

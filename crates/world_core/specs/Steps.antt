@@ -1,18 +1,32 @@
 -- What one instruction of an enclave comes to, and what it changes.
-use Rattle.std.specs.Prelude.{◌≡◌, ◌≤◌, ◌<◌, ℕ, ◌+◌, ◌%◌, ◌==◌, List, length, Some}
+use Rattle.std.specs.Prelude.{◌≡◌, ◌≤◌, ◌<◌, ℕ, ◌+◌, ◌%◌, ◌==◌, Bool, true, false, List, length, Option, Some}
 use Rattle.std.specs.List.{All}
 use Rattle.pl_base.specs.declared.state.Why.{Why}
+use Rattle.pl_base.specs.declared.state.Why.TheVariants as why_is
 use Rattle.mon_image.specs.declared.page.ImagePage.{ImagePage}
 use Rattle.mon_image.specs.declared.image.Image.{Image}
 use Rattle.mon_enclave.specs.declared.enclave.Enclave.{Enclave}
 use Rattle.mon_enclave.specs.Records.{enclave_at, with_enclave}
-use Rattle.rv_alone.specs.Flat.{Flat, on, ended}
+use Rattle.rv_alone.specs.Flat.{Image as Flat_image, Flat, Status, on, ended}
 use Rattle.rv_alone.specs.Alone.{Outcome, trap, wait, full, next, one, calls, alone}
-use Rattle.pl_history.specs.Monitor.{flat_image}
-use Rattle.pl_history.specs.Running.{reason}
+use Rattle.pl_history.specs.Monitor.{Number, flat_image, image_at}
+use Rattle.pl_history.specs.declared.setup.SetupParts.{SetupParts}
+use Rattle.pl_history.specs.Running.{obstacle}
 use Rattle.world_core.specs.declared.step.Stepped.{Stepped}
 use Rattle.world_core.specs.declared.step.Stepped.TheVariants.{Retired, Ended, Waiting, OutFull, Trapped}
 use Rattle.world_core.specs.Pages.{numbers_of, flat_of, AreApart, SameOutside}
+
+-- an end comes before a spent budget, and this before the next instruction
+abbrev pub reason : Status → Bool → Outcome → Option Why
+reason (ended code) spent outcome = Some (why_is.Ended code)
+reason on true outcome = Some why_is.Budget
+reason on false outcome = obstacle false outcome
+
+-- a number leaves its run after so many instructions for this reason, as its image run alone does
+abbrev pub LeavesAlone : SetupParts → Number → ℕ → ℕ → Why → Type 0
+LeavesAlone setup n budget count why =
+    (image : Flat_image) × (image_at setup n.image ≡ Some image) × (count ≤ budget)
+    × (a : Flat) × (alone image n.sent (n.retired + count) ≡ Some a) × (reason a.status (count == budget) (one a n.sent) ≡ Some why)
 
 -- what an instruction came to, where this state follows
 abbrev pub outcome_of : Stepped → Flat → Outcome

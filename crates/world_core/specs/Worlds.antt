@@ -17,13 +17,13 @@ use Rattle.pl_history.specs.declared.answer.Entry.{Entry}
 use Rattle.pl_history.specs.declared.setup.SetupParts.{SetupParts}
 use Rattle.pl_history.specs.Rules.{guarded_of, pages_of, names_known}
 use Rattle.pl_history.specs.Monitor.{Number, Monitor, Progress, number, flat_image, flat_page}
-use Rattle.pl_history.specs.Making.{is_in}
-use Rattle.pl_history.specs.Running.{MayLeaveNumber}
+use Rattle.pl_base.specs.Pages.{is_among}
 use Rattle.pl_history.specs.Legal.{Legal, legal_state}
 use Rattle.world_core.specs.declared.owners.Owner.TheVariants.{Guard, Host}
 use Rattle.world_core.specs.declared.world.World.{World}
 use Rattle.world_core.specs.Memory.{zero_page}
 use Rattle.world_core.specs.Owners.{owner_of, Takes}
+use Rattle.world_core.specs.Steps.{LeavesAlone}
 use Rattle.world_core.specs.Pages.{numbers_of, flat_pages, flat_of, AreApart, SameOutside}
 
 -- so many lines of hart 0 are answered, and none has begun
@@ -72,7 +72,7 @@ pub record EnclaveStands (setup : SetupParts) (w : World) (e : ℕ) (r : Enclave
   pub image : Image
   pub image_is : slice_get setup.images r.image ≡ Some image
   pub apart : AreApart (numbers_of r.pages)
-  pub owned : (page : ℕ) → is_in (numbers_of r.pages) page ≡ true → owner_of w.owners page ≡ Some (number e)
+  pub owned : (page : ℕ) → is_among (numbers_of r.pages) page ≡ true → owner_of w.owners page ≡ Some (number e)
   pub aligned : r.context.pc % 4 ≡ 0
   pub now : Flat
   pub alone_is : alone (flat_image image) r.sent r.retired ≡ Some now
@@ -103,16 +103,18 @@ pub record Created (setup : SetupParts) (e image_number : ℕ) (pages : List ℕ
 
 -- a run of a number has left
 pub record Left (setup : SetupParts) (e budget count : ℕ) (why : Why) (answered : ℕ) (old new : World) : Type 0 where
-  pub leaves : MayLeaveNumber setup (number_of (enclave_at old.enclaves e)) budget count why
+  pub leaves : LeavesAlone setup (number_of (enclave_at old.enclaves e)) budget count why
   pub enclaves : new.enclaves ≡ with_enclave old.enclaves e (enclave_at new.enclaves e)
   pub number : number_of (enclave_at new.enclaves e) ≡ record (number_of (enclave_at old.enclaves e)) { state = state_left why; retired = (enclave_at old.enclaves e).retired + count }
   pub owners : new.owners ≡ old.owners
   pub stands : Stands setup new (answered + 1)
 
--- the history so far is legal, and the world is the state that it gives
+-- the history so far is legal, whatever bytes the attacker's entries would name, and the world is the state that it gives; hart 0
+-- isn't the attacker
 pub record Follows (setup : SetupParts) (w : World) (entries : List Entry) (answered : ℕ) : Type 0 where
-  pub legal : Legal setup entries
-  pub state : legal_state setup entries ≡ monitor_of w answered
+  pub hart : (0 == setup.harts) ≡ false
+  pub legal : (bytes : List ℕ) → Legal setup bytes entries
+  pub state : (bytes : List ℕ) → legal_state setup bytes entries ≡ monitor_of w answered
   pub stands : Stands setup w answered
 
 -- an entry of hart 0

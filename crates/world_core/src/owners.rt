@@ -1,7 +1,7 @@
 // The owner of each page.
 ghost use Rattle.std.specs.Prelude.{◌≡◌, ◌+◌, ◌-◌, ◌<◌, ◌≤◌, ◌++◌, length, replicate, find, not, IfOk};
 ghost use Rattle.std.specs.List.{All};
-ghost use Rattle.pl_history.specs.Making.{is_host};
+ghost use Rattle.pl_history.specs.Monitor.{is_host};
 ghost use Rattle.world_core.specs.Owners.{owner_of, Takes};
 
 use pl_base::{EncNo, Memory};

@@ -19,8 +19,8 @@ fn run_script(setup: &SetupParts, world: &mut World, history: &mut History)
     requires opens { Opens setup.now world.old }
     requires empty { history.old.entries ≡ [] }
     requires room { 2 * length (script_of setup.now 0) ≤ history.old.entry_room }
-    ensures legal { Legal setup.now history.new.entries }
-    ensures answered { AllAnswered setup.now history.new.entries }
+    ensures legal { Legal setup.now history.new.bytes history.new.entries }
+    ensures answered { AllAnswered setup.now history.new.bytes history.new.entries }
 {
     let lines = setup.lines.as_slice()[0].as_slice();
     for at in 0..lines.len() {
@@ -31,8 +31,8 @@ fn run_script(setup: &SetupParts, world: &mut World, history: &mut History)
 /// The history of a run of a setup of which all is built. All its memory is taken before the first line is answered.
 pub fn run_setup(alloc: Global, setup: &Setup) -> Result<History, Memory>
     requires { first_unbuilt_of setup.now ≡ None }
-    ensures legal { IfOk result (λ history. Legal setup.now history.entries) }
-    ensures answered { IfOk result (λ history. AllAnswered setup.now history.entries) }
+    ensures legal { IfOk result (λ history. Legal setup.now history.bytes history.entries) }
+    ensures answered { IfOk result (λ history. AllAnswered setup.now history.bytes history.entries) }
 {
     let parts = setup.parts();
     let mut world = World::new(alloc, parts)?;

@@ -5,7 +5,8 @@ ghost use Rattle.mon_enclave.specs.Records.{enclave_at};
 ghost use Rattle.pl_base.specs.States.{is_free};
 ghost use Rattle.pl_history.specs.Monitor.{flat_page};
 ghost use Rattle.pl_history.specs.Rules.{IsSetup};
-ghost use Rattle.pl_history.specs.Making.{create_refusal, first_twice};
+ghost use Rattle.pl_base.specs.Refusals.{first_refusal};
+ghost use Rattle.pl_history.specs.Making.{create_refusal, first_twice, page_refusals};
 ghost use Rattle.world_core.specs.Pages.{AreApart, SameOutside, flat_pages};
 ghost use Rattle.world_core.specs.Worlds.{monitor_of, is_ready, Opens, Stands, Created, Left};
 
@@ -62,6 +63,17 @@ impl World {
         })
     }
 
+    // Why these pages can't be taken. No page is mapped.
+    fn page_refusal(&self, setup: &SetupParts, pages: &[u32]) -> Option<No>
+        ensures { result ≡ first_refusal (page_refusals setup.now (monitor_of self.now 0) pages.now) }
+    {
+        let _ = setup;
+        match self.owners.first_not_host(pages) {
+            Some(page) => Some(No::NotYours(page)),
+            None => None,
+        }
+    }
+
     // Why a number can't be made of an image and these pages.
     pub fn create_refusal(
         &self,
@@ -84,7 +96,7 @@ impl World {
         if let Some(page) = first_twice(pages) {
             return Some(No::Twice(page));
         }
-        self.owners.first_not_host(pages).map(No::NotYours)
+        self.page_refusal(setup, pages)
     }
 
     // Makes a number of an image, from these pages.

@@ -44,4 +44,7 @@ pub returns-clause-answered : goal.returns-clause-answered
 returns-clause-answered c =
     let script : c.as_slice-lines.result.now ≡ script_of c.args.setup.now 0
     = c.as_slice-lines.ensures ∙ first_script c.args.setup.now c.index-as_slice-0.result c.requires.rules c.requires.built (c.index-as_slice-0.is ∙ ap (λ s. get_or s 0 c.index-as_slice-0.result) c.as_slice.ensures) in
-    all_answered c.args.setup.now c.loop-at.world c.loop-at.history.entries c.loop-at.at c.requires.rules c.requires.built c.loop-at.invariant.follows (omega (arith, ap length script))
+    all_answered c.args.setup.now c.loop-at.world c.loop-at.history.entries c.loop-at.at c.requires.rules c.requires.built c.loop-at.invariant.follows (omega (arith, ap length script)) c.loop-at.history.bytes
+
+pub returns-clause-legal : goal.returns-clause-legal
+returns-clause-legal c = c.loop-at.invariant.follows.legal c.loop-at.history.bytes

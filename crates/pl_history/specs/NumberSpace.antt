@@ -1,0 +1,38 @@
+-- The address space of an enclave number.
+use Rattle.std.specs.Prelude.{ℕ, ◌+◌, ◌==◌, if◌then◌else◌, List, [], ◌∷◌, Option, Some, None, option_map, slice_index}
+use Rattle.std.specs.Option.{option_map_or}
+use Rattle.pl_base.specs.declared.perms.Perms.{Perms}
+use Rattle.rv_alone.specs.Flat.{Image, Page}
+use Rattle.pl_history.specs.declared.setup.SetupParts.{SetupParts}
+use Rattle.pl_history.specs.Monitor.{Number, image_at}
+use Rattle.pl_history.specs.Space.{Mapping, without_write}
+
+-- the first place of a page of the image in a list
+abbrev pub place_in : ℕ → List ℕ → Option ℕ
+place_in at [] = None
+place_in at (first ∷ later) = if first == at then Some 0 else option_map (λ place. place + 1) (place_in at later)
+
+-- page i of an image has the virtual page number 16 + i
+abbrev pub image_mapping : ℕ → ℕ → Perms → Mapping
+image_mapping at page perms = record { vpn = 16 + at; page = page; perms = perms }
+
+-- A page of the image that a forked number has broken, the k-th, is its k-th spare; any other is the shadow's, without W.
+abbrev pub forked_mapping : List ℕ → List ℕ → Option ℕ → ℕ → Perms → Mapping
+forked_mapping spares shared (Some k) at perms = image_mapping at (slice_index spares k) perms
+forked_mapping spares shared None at perms = image_mapping at (slice_index shared at) (without_write perms)
+
+-- where page i of the image stands: a number that isn't forked has pages of its own
+abbrev pub mapping_of_page : (ℕ → Number) → Number → List ℕ → Option ℕ → ℕ → Perms → Mapping
+mapping_of_page number n broken None at perms = image_mapping at (slice_index n.pages at) perms
+mapping_of_page number n broken (Some parent) at perms = forked_mapping n.spares (number parent).pages (place_in at broken) at perms
+
+abbrev pub mappings_from : (ℕ → Number) → Number → List ℕ → ℕ → List Page → List Mapping
+mappings_from number n broken at [] = []
+mappings_from number n broken at (page ∷ pages) =
+    mapping_of_page number n broken n.parent at page.perms ∷ mappings_from number n broken (at + 1) pages
+
+-- The space of a number, which has broken these pages of its image so far, in order. A number that isn't live has none: one that is
+-- free, building, sealed or dying, or was stopped by a fault while it was made.
+abbrev pub space_of : SetupParts → (ℕ → Number) → Number → List ℕ → List Mapping
+space_of setup number n broken =
+    if n.live then option_map_or (λ (image : Image). mappings_from number n broken 0 image.pages) (image_at setup n.image) [] else []

@@ -1,0 +1,16 @@
+// Laws of histories.
+ghost use Rattle.pl_history.specs.Laws.{OneMoreIsLegal, OneMoreGives, MoreBytesLeaveLegal, MoreBytesLeaveState};
+
+/// A history grows by one entry at a time: it stays legal where that entry is allowed, and the state that it gives is the one after it.
+#[tactic(auto, using(crate::proofs::HistoryLemmas::one_more_is_legal, crate::proofs::HistoryLemmas::one_more_gives))]
+pub fn histories_grow_by_entries()
+    ensures legal { OneMoreIsLegal }
+    ensures state { OneMoreGives }
+{}
+
+/// Bytes that are added change nothing: a history stays legal, and gives the same state.
+#[tactic(auto, using(crate::proofs::HistoryLemmas::more_bytes_leave_legal, crate::proofs::HistoryLemmas::more_bytes_leave_state))]
+pub fn added_bytes_leave_histories()
+    ensures legal { MoreBytesLeaveLegal }
+    ensures state { MoreBytesLeaveState }
+{}
