@@ -24,6 +24,7 @@ learned_by level (walked.Next ppn) = Ok (Level (level - 1) ppn)
 learned_by level (walked.Leaf ppn perms) = Ok (Found ppn perms)
 learned_by level walked.PageFault = Err (record {})
 
+-- what the walk is with this word
 abbrev pub learned : Walk → ℕ → Va → Kind → View → Result Walk PageFault
 learned walk word va kind view = learned_by (level_of walk) (step_of walk word va kind view)
 
@@ -33,5 +34,6 @@ tlb_by entries va view (walked.Next ppn) = entries
 tlb_by entries va view (walked.Leaf ppn perms) = with_entry entries (record { space = view.space; vpn = vpn_of va; ppn = ppn; perms = perms })
 tlb_by entries va view walked.PageFault = entries
 
+-- the TLB with this word
 abbrev pub tlb_after : Walk → ℕ → Va → Kind → View → List TlbEntry → List TlbEntry
 tlb_after walk word va kind view entries = tlb_by entries va view (step_of walk word va kind view)

@@ -34,6 +34,7 @@ abbrev pub sought_by : Option TlbEntry → Va → Kind → Sought → Sought
 sought_by (Some entry) va kind table = sought_through entry.ppn entry.perms va kind
 sought_by None va kind table = table
 
+-- where the walk stands; a page that it found comes before all entries
 abbrev pub sought_at : Walk → Option TlbEntry → Va → Kind → View → Sought
 sought_at Start entry va kind view = sought_by entry va kind (sought_table 2 view.root va)
 sought_at (Level level table) entry va kind view = sought_by entry va kind (sought_table level table va)

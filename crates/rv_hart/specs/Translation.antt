@@ -51,10 +51,12 @@ pub record Translated : Type 0 where
   pub answer : Sought
   pub tlb : List TlbEntry
 
+-- after a word: the translation goes on by a walk, and ends at a page fault
 abbrev pub after_word : (Walk → List TlbEntry → Translated) → Result Walk PageFault → List TlbEntry → Translated
 after_word on (Ok walk) entries = on walk entries
 after_word on (Err fault) entries = record { answer = sought_is.PageFault; tlb = entries }
 
+-- after a question: it goes on with the word at the address of a table, and ends with any other answer
 abbrev pub after_question : (Pa → Translated) → Sought → List TlbEntry → Translated
 after_question on (sought_is.Table pa level) entries = on pa
 after_question on (sought_is.At pa) entries = record { answer = sought_is.At pa; tlb = entries }
