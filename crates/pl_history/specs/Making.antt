@@ -1,13 +1,13 @@
 -- Making enclaves: `create`, `shadow`, `fork` and `grant`.
 use Rattle.std.specs.Prelude.{ℕ, ◌+◌, ◌==◌, nat_lt, Bool, true, false, not, List, [], ◌∷◌, ◌++◌, length, count_by, find, Option, Some, option_map, slice_get}
 use Rattle.std.specs.Option.{option_map_or}
-use Rattle.pl_base.specs.declared.number.EncNo.{EncNo}
 use Rattle.pl_base.specs.declared.refusal.No.{No}
-use Rattle.pl_base.specs.declared.refusal.No.TheVariants.{Exists, Count, Twice, NotYours, StillMapped, NoEnclave, WrongState, TooMany}
+use Rattle.pl_base.specs.declared.refusal.No.TheVariants.{Exists, Count, Twice, NotYours, StillMapped, Barred, NoEnclave, WrongState, TooMany}
 use Rattle.pl_base.specs.declared.state.State.{State}
 use Rattle.pl_base.specs.declared.state.State.TheVariants as state_is
 use Rattle.pl_base.specs.Refusals.{refuse, first_refusal}
 use Rattle.pl_base.specs.States.{is_free, is_absent}
+use Rattle.rv_pmp.specs.Pmp.{page_allowed}
 use Rattle.pl_history.specs.declared.answer.Answer.{Answer}
 use Rattle.pl_history.specs.declared.answer.Answer.TheVariants as answer_is
 use Rattle.pl_history.specs.declared.line.Line.{Line}
@@ -15,6 +15,7 @@ use Rattle.pl_history.specs.declared.setup.SetupParts.{SetupParts}
 use Rattle.pl_history.specs.Answering.{AtOnce, Begins, EndsDoneOrFaulted}
 use Rattle.pl_history.specs.Licence.{Licensed}
 use Rattle.pl_history.specs.Monitor.{number, Monitor, is_host, maps_of, freed, with_number, with_owner}
+use Rattle.pl_history.specs.Protection.{protection_of}
 
 -- ---- the refusals
 
@@ -50,10 +51,14 @@ first_not_host s pages = find (λ page. not (is_host (s.owner page))) pages
 abbrev pub first_mapped : Monitor → List ℕ → Option ℕ
 first_mapped s pages = find (λ page. nat_lt 0 (maps_of s page)) pages
 
+-- the first page in a list that the protection entries don't leave open
+abbrev pub first_barred : SetupParts → List ℕ → Option ℕ
+first_barred setup pages = find (λ page. not (page_allowed (protection_of setup) page)) pages
+
 -- why these pages can't be taken, one cause over the whole list and then the next: one isn't the host's, one is mapped, one is barred
 abbrev pub page_refusals : SetupParts → Monitor → List ℕ → List (Option No)
 page_refusals setup s pages =
-    option_map NotYours (first_not_host s pages) ∷ option_map StillMapped (first_mapped s pages) ∷ []
+    option_map NotYours (first_not_host s pages) ∷ option_map StillMapped (first_mapped s pages) ∷ option_map Barred (first_barred setup pages) ∷ []
 
 -- why a number can't be made of an image and these pages: it isn't free, the list has another length than the image, a page stands in
 -- it twice, a page can't be taken

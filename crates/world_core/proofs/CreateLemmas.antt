@@ -8,7 +8,7 @@ use Rattle.std.proofs.lemmas.Option.{slice_get_within, slice_get-get_or}
 use Rattle.std.specs.Option.{option_map_or}
 use Rattle.mon_image.specs.declared.image.Image.{Image}
 use Rattle.pl_base.specs.declared.refusal.No.{No}
-use Rattle.pl_base.specs.declared.refusal.No.TheVariants.{Exists, Count, Twice, NotYours, StillMapped}
+use Rattle.pl_base.specs.declared.refusal.No.TheVariants.{Exists, Count, Twice, NotYours, StillMapped, Barred}
 use Rattle.pl_base.specs.declared.state.State.{State}
 use Rattle.pl_base.specs.declared.state.State.TheVariants as state_is
 use Rattle.pl_base.specs.Refusals.{refuse, first_refusal}
@@ -118,10 +118,11 @@ find_false (page ∷ pages) = find_false pages
 pub none_mapped : (w : World) (at : ℕ) (pages : List ℕ) → first_mapped (monitor_of w at) pages ≡ None
 none_mapped w at pages = find_false pages
 
-pub no_cause : (a b : Option ℕ) → a ≡ None → b ≡ None → None ≡ first_refusal (option_map NotYours a ∷ option_map StillMapped b ∷ [])
-no_cause None None e f = refl
-no_cause None (Some x) e f = cc
-no_cause (Some x) b e f = cc
+pub last_cause : (a b c : Option ℕ) → a ≡ None → b ≡ None → option_map Barred c ≡ first_refusal (option_map NotYours a ∷ option_map StillMapped b ∷ option_map Barred c ∷ [])
+last_cause None None None e f = refl
+last_cause None None (Some x) e f = refl
+last_cause None (Some x) c e f = cc
+last_cause (Some x) b c e f = cc
 
 -- nothing refuses it
 pub record MayCreate (setup : SetupParts) (s : Monitor) (e number : ℕ) (pages : List ℕ) : Type 0 where
