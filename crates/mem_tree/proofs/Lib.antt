@@ -1,7 +1,12 @@
+pub mod BlockChanges
 pub mod Differences
 pub mod DigestSteps
+pub mod EntryChanges
+pub mod LinkedPaths
+pub mod PageChanges
+pub mod PathPlaces
 pub mod TreeChanges
 pub mod TreeNodes
+pub mod TreePaths
+pub mod WordChanges
 pub mod WordPaths
-pub mod ZoneChanges
-pub mod ZonePaths

@@ -8,8 +8,8 @@ use Rattle.std.specs.List.{concat}
 use Rattle.pl_digest.specs.Trees.{piece, lower_nodes, upper_node}
 use Rattle.pl_digest.proofs.PieceLemmas.{AllOfLength}
 use Rattle.pl_base.specs.Bytes.{with_bytes}
-use Rattle.mem_tree.specs.Paths.{with_entry}
-use Rattle.mem_tree.specs.Zones.{nth}
+use Rattle.pl_digest.specs.Nodes.{with_entry}
+use Rattle.mem_tree.specs.Trees.{nth}
 use Rattle.mem_tree.proofs.DigestSteps.{digests_of_length}
 use Rattle.mem_tree.proofs.TreeNodes.{length-lower_nodes, nth-lower_nodes}
 
@@ -71,7 +71,7 @@ module _ (digests : List (List ℕ)) (i : ℕ) (x : List ℕ) (count : length di
       ∙ concat-set 32 (piece 8 k digests) j x (All-take (λ (xs : List ℕ). length xs ≡ 32) 8 (drop (8 * k) digests) (All-drop (λ (xs : List ℕ). length xs ≡ 32) (8 * k) digests sizes)) size (omega (arith, eight))
       ∙ ap (with_entry j x) (sym (nth-lower_nodes digests k [] (omega arith)))
 
-  at_other : (k : ℕ) (e : List ℕ) → k < 8 → k ≢ i / 8 → get_or (lower_nodes (set digests i x)) k e ≡ get_or (lower_nodes digests) k e
+  pub at_other : (k : ℕ) (e : List ℕ) → k < 8 → k ≢ i / 8 → get_or (lower_nodes (set digests i x)) k e ≡ get_or (lower_nodes digests) k e
   at_other k e in_range other =
       nth-lower_nodes (set digests i x) k e in_range
       ∙ ap concat (⊎_elim (λ (before : i < 8 * k). piece-set_before 8 k i x digests before) (λ (past : 8 * k ≤ i). piece-set_after 8 k i x digests (omega arith)) (cases_lt i (8 * k)))

@@ -6,8 +6,8 @@ use Rattle.std.proofs.lemmas.List.Elements.{All-take, All-drop}
 use Rattle.std.specs.List.{concat}
 use Rattle.pl_digest.specs.Trees.{piece, pieces, blocks, lower_nodes, upper_node, block_digests}
 use Rattle.pl_digest.proofs.PieceLemmas.{AllOfLength, concat-pieces, drop-concat, get_or-pieces, length-pieces, pieces-concat}
-use Rattle.mem_tree.specs.Paths.{entry}
-use Rattle.mem_tree.specs.Zones.{nth}
+use Rattle.pl_digest.specs.Nodes.{entry}
+use Rattle.mem_tree.specs.Trees.{nth}
 use Rattle.mem_tree.proofs.DigestSteps.{digests_of_length}
 
 pub length-lower_nodes : (digests : List (List ℕ)) → length (lower_nodes digests) ≡ 8

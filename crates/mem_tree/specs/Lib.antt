@@ -1,4 +1,10 @@
+pub mod Changes
 pub mod Checks
 pub mod Paths
+pub mod Trees
 pub mod Words
-pub mod Zones
+pub use Rattle.byteorder.specs.Endian
+pub use Rattle.mem_geom.specs.PathPlaces
+pub use Rattle.mem_geom.specs.Tree
+pub use Rattle.pl_base.specs.Bytes
+pub use Rattle.pl_digest.specs.Nodes

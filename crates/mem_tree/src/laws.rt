@@ -1,18 +1,34 @@
-// What holds of paths as such. Each law is the contract of a function that does nothing.
+// What holds of paths and trees as such. Each law is the contract of a function that does nothing.
 ghost use Rattle.std.specs.Prelude.{List, ℕ};
-ghost use Rattle.mem_tree.specs.Checks.{DifferencesCollide};
-ghost use Rattle.mem_tree.specs.Zones.{WordPathsAreTopDown, ZonePathsHold};
+ghost use Rattle.mem_tree.specs.Changes.{TreesChange};
+ghost use Rattle.mem_tree.specs.Checks.{ChecksTell, DifferencesCollide, OwnBytesMatter};
+ghost use Rattle.mem_tree.specs.Trees.{PathsAreTopDown, PathsHold};
+ghost use Rattle.mem_tree.specs.Words.{PartsAnswerAlike};
 
 use pl_digest::Digester;
 
-/// For every digest function: where the written bytes hold under the same root, the check of a path finds the first
-/// place that breaks or was written otherwise.
-pub fn differences_collide()
-    ensures { (digest_of : List ℕ → List ℕ) → DifferencesCollide digest_of }
+/// For every digest function, where the written bytes hold under a path's root: its check finds the first place that
+/// breaks or was written otherwise, and what it finds tells how taken and written bytes stand to one another.
+pub fn checks_tell()
+    ensures differences_collide { (digest_of : List ℕ → List ℕ) → DifferencesCollide digest_of }
+    ensures checks_tell { (digest_of : List ℕ → List ℕ) → ChecksTell digest_of }
 {}
 
-/// The path of a word goes from the top down, and it holds in the tree over any pages of its zone.
-pub fn word_paths_hold<D: Digester>()
-    ensures top_down { WordPathsAreTopDown D }
-    ensures hold { ZonePathsHold D D.digest_of }
+/// The answers for a path hang on its root and the bytes of its own places alone; so those for the parts of a word's
+/// path are those for the bytes that they came from.
+pub fn own_bytes_matter()
+    ensures own_bytes_matter { (digest_of : List ℕ → List ℕ) → OwnBytesMatter digest_of }
+    ensures parts_answer_alike { (digest_of : List ℕ → List ℕ) → PartsAnswerAlike digest_of }
+{}
+
+/// The paths of a word, of a page, of a page that is replaced, and of a mounting or an eviction go from the top down,
+/// and each holds in its tree.
+pub fn paths_hold<D: Digester>()
+    ensures top_down { PathsAreTopDown }
+    ensures hold { PathsHold D.digest_of }
+{}
+
+/// What of a tree changes with a part of a block, with a page, and with an entry of the root table.
+pub fn trees_change<D: Digester>()
+    ensures { TreesChange D.digest_of }
 {}

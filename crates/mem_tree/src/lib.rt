@@ -11,7 +11,7 @@ mod part;
 mod sealed;
 mod taken;
 
-pub use laws::{differences_collide, word_paths_hold};
+pub use laws::{checks_tell, own_bytes_matter, paths_hold, trees_change};
 pub use new_path::NewPath;
 pub use nodes::{digest_pieces, page_nodes};
 pub use sealed::{Sealed, Verdict};

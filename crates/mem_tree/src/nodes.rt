@@ -1,33 +1,8 @@
-ghost use Rattle.std.specs.Prelude.{◌≡◌, ◌*◌, ◌<◌, length, map};
+ghost use Rattle.std.specs.Prelude.{◌≡◌, ◌*◌, length, map};
 ghost use Rattle.std.specs.List.{concat};
-ghost use Rattle.std.specs.Str.{bytes_eq};
 ghost use Rattle.pl_digest.specs.Trees.{pieces, lower_nodes, upper_node, block_digests};
-ghost use Rattle.mem_tree.specs.Paths.{entry, with_entry};
 
-use pl_digest::Digester;
-
-/// The bytes of a digest.
-const DIGEST_BYTES: usize = 32;
-
-/// Whether a node has the digest of some bytes as this number.
-pub(crate) fn has_digest_of<D: Digester>(node: &[u8; 256], number: u16, below: &[u8]) -> bool
-    requires { number < 8 }
-    ensures { result ≡ bytes_eq (D.digest_of below.now) (entry number node.now) }
-{
-    let from = DIGEST_BYTES * usize::from(number);
-    D::digest(below).as_slice() == &node[from..from + DIGEST_BYTES]
-}
-
-/// The node with the digest of some bytes as this number.
-pub(crate) fn with_digest_of<D: Digester>(node: &[u8; 256], number: u16, below: &[u8]) -> [u8; 256]
-    requires { number < 8 }
-    ensures { result ≡ with_entry number (D.digest_of below.now) node.now }
-{
-    let from = DIGEST_BYTES * usize::from(number);
-    let mut changed = *node;
-    changed[from..from + DIGEST_BYTES].copy_from_slice(&D::digest(below));
-    changed
-}
+use pl_digest::{DIGEST_BYTES, Digester};
 
 /// The digests of so many pieces of one size, one after another.
 pub fn digest_pieces<D: Digester>(bytes: &[u8], size: usize, count: usize, into: &mut [u8])

@@ -1,16 +1,18 @@
 ghost use Rattle.std.specs.Prelude.{◌≡◌, ◌+◌, ◌*◌, ◌/◌, ◌%◌, ◌<◌, List, ℕ};
 ghost use Rattle.byteorder.specs.Endian.{little_bytes};
 ghost use Rattle.pl_base.specs.Bytes.{with_bytes};
-ghost use Rattle.mem_tree.specs.Paths.{verdict_of, with_entry};
-ghost use Rattle.mem_tree.specs.Words.{path_of, IsInRange, IsPart};
-ghost use Rattle.mem_tree.specs.Zones.{IsZone, zone_path, taken_path, with_page_part};
+ghost use Rattle.pl_digest.specs.Nodes.{with_entry};
+ghost use Rattle.pl_digest.specs.Trees.{zone_root};
+ghost use Rattle.mem_tree.specs.Changes.{with_page_part};
+ghost use Rattle.mem_tree.specs.Paths.{first_break};
+ghost use Rattle.mem_tree.specs.Trees.{IsZone, zone_bytes};
+ghost use Rattle.mem_tree.specs.Words.{IsInRange, IsPart, parts_of, taken_path, verdict_of, word_path};
 
 use crate::new_path::NewPath;
-use crate::nodes::with_digest_of;
 use crate::part::block_with_part;
 use crate::taken::{Taken, first_break};
 use pl_base::Place;
-use pl_digest::Digester;
+use pl_digest::{Digester, with_digest_of};
 use std::marker::Model;
 
 /// What the check of a path says.
@@ -47,7 +49,10 @@ impl<D: Digester> Taken<D> {
         requires block { self.block_no < 64 }
         ensures { result ≡ self }
     {
-        let verdict = first_break(&self);
+        let verdict = match first_break(&self) {
+            None => Verdict::Holds,
+            Some(place) => Verdict::Breaks(place),
+        };
         Sealed {
             taken: self,
             verdict,
@@ -58,7 +63,7 @@ impl<D: Digester> Taken<D> {
 impl<D: Digester> Sealed<D> {
     /// The first place from the top that breaks, if one does.
     pub fn verdict(&self) -> Verdict
-        ensures { result ≡ verdict_of D.digest_of (path_of self.now) }
+        ensures { result ≡ verdict_of (first_break D.digest_of (taken_path self.now)) }
     {
         self.verdict
     }
@@ -74,7 +79,7 @@ impl<D: Digester> Sealed<D> {
     /// The path after a write of the lowest `width` bytes of a value at an offset in the block. This computes five
     /// digests.
     pub fn with_part(&self, offset: u8, width: u8, value: u64) -> NewPath
-        requires holds { verdict_of D.digest_of (path_of self.now) ≡ Verdict.Holds }
+        requires holds { first_break D.digest_of (taken_path self.now) ≡ None }
         requires part { IsPart offset width }
 
         // The block has the part, each node the digest of what is new below it, and nothing else changes.
@@ -87,10 +92,9 @@ impl<D: Digester> Sealed<D> {
 
         // Where the taken path is that of a zone's pages, this is the path of the pages with the part.
         ensures tree { (pages : List (List ℕ)) → IsZone pages
-            → taken_path self.now ≡ zone_path D.digest_of pages (self.now.page % 64) self.now.block_no
-            → result ≡ zone_path D.digest_of
-            (with_page_part pages (self.now.page % 64) (64 * self.now.block_no + offset) (little_bytes width value))
-            (self.now.page % 64) self.now.block_no }
+            → parts_of self.now ≡ word_path (zone_root D.digest_of pages) (zone_bytes D.digest_of pages) self.now.page self.now.block_no
+            → let now = with_page_part pages (self.now.page % 64) (64 * self.now.block_no + offset) (little_bytes width value)
+            in result ≡ word_path (zone_root D.digest_of now) (zone_bytes D.digest_of now) self.now.page self.now.block_no }
     {
         let taken = &self.taken;
         let page = (taken.page % 64) as u16;

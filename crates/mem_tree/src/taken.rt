@@ -1,11 +1,9 @@
 ghost use Rattle.std.specs.Prelude.{◌≡◌, ◌<◌};
-ghost use Rattle.mem_tree.specs.Paths.{verdict_of};
-ghost use Rattle.mem_tree.specs.Words.{path_of};
+ghost use Rattle.mem_tree.specs.Paths.{first_break};
+ghost use Rattle.mem_tree.specs.Words.{taken_path};
 
-use crate::nodes::has_digest_of;
-use crate::sealed::Verdict;
 use pl_base::Place;
-use pl_digest::Digester;
+use pl_digest::{Digester, has_digest_of};
 
 /// A block and the four nodes over it, as taken from off-chip memory, and the root of the zone.
 #[derive(Clone, Copy)]
@@ -30,37 +28,37 @@ pub struct Taken<D> {
 }
 
 /// The first place from the top that breaks.
-pub(crate) fn first_break<D: Digester>(taken: &Taken<D>) -> Verdict
+pub(crate) fn first_break<D: Digester>(taken: &Taken<D>) -> Option<Place>
     requires page { taken.now.page < 4096 }
     requires block { taken.now.block_no < 64 }
-    ensures { result ≡ verdict_of D.digest_of (path_of taken.now) }
+    ensures { result ≡ first_break D.digest_of (taken_path taken.now) }
 {
     let zone = (taken.page / 64) as u8;
     let page = (taken.page % 64) as u16;
     let block = u16::from(taken.block_no);
     if D::digest(&taken.level4) != taken.root {
-        return node_breaks(4, zone, 0);
+        return node(4, zone, 0);
     }
     if !has_digest_of::<D>(&taken.level4, page / 8, &taken.level3) {
-        return node_breaks(3, zone, page / 8);
+        return node(3, zone, page / 8);
     }
     if !has_digest_of::<D>(&taken.level3, page % 8, &taken.level2) {
-        return node_breaks(2, zone, page);
+        return node(2, zone, page);
     }
     if !has_digest_of::<D>(&taken.level2, block / 8, &taken.level1) {
-        return node_breaks(1, zone, 8 * page + block / 8);
+        return node(1, zone, 8 * page + block / 8);
     }
     if !has_digest_of::<D>(&taken.level1, block % 8, &taken.block) {
-        return Verdict::Breaks(Place::Block {
+        return Some(Place::Block {
             page: taken.page,
             block: taken.block_no,
         });
     }
-    Verdict::Holds
+    None
 }
 
-fn node_breaks(level: u8, zone: u8, index: u16) -> Verdict
-    ensures { result ≡ Verdict.Breaks (Place.Node level zone index) }
+fn node(level: u8, zone: u8, index: u16) -> Option<Place>
+    ensures { result ≡ Some (Place.Node level zone index) }
 {
-    Verdict::Breaks(Place::Node { level, zone, index })
+    Some(Place::Node { level, zone, index })
 }

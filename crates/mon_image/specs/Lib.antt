@@ -1,1 +1,2 @@
 pub mod Measurement
+pub use Rattle.sha2.specs.Sha256

@@ -2,3 +2,9 @@ pub mod Alone
 pub mod Effect
 pub mod Flat
 pub mod Laws
+pub use Rattle.byteorder.specs.Endian
+pub use Rattle.pl_base.specs.Bytes
+pub use Rattle.pl_base.specs.Perms
+pub use Rattle.pl_base.specs.Width
+pub use Rattle.rv_alu.specs.Values
+pub use Rattle.rv_insn.specs.Table

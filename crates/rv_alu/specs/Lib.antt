@@ -1,1 +1,2 @@
 pub mod Values
+pub use Rattle.rv_insn.specs.Word

@@ -1,1 +1,2 @@
 pub mod Tlb
+pub use Rattle.pl_base.specs.Address

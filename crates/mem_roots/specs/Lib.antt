@@ -1,0 +1,2 @@
+pub mod Roots
+pub use Rattle.pl_digest.specs.Nodes
