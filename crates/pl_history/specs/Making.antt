@@ -20,8 +20,8 @@ use Rattle.pl_history.specs.Protection.{protection_of}
 -- ---- the refusals
 
 -- how many pages an image has
-abbrev pub page_count : SetupParts → ℕ → ℕ
-page_count setup image = option_map_or (λ i. length i.pages) (slice_get setup.images image) 0
+abbrev pub image_page_count : SetupParts → ℕ → ℕ
+image_page_count setup image = option_map_or (λ i. length i.pages) (slice_get setup.images image) 0
 
 -- a number is sealed: forks may share its pages
 abbrev pub is_sealed : State → Bool
@@ -65,7 +65,7 @@ page_refusals setup s pages =
 abbrev pub create_refusal : SetupParts → Monitor → ℕ → ℕ → List ℕ → Option No
 create_refusal setup s e image pages = first_refusal (
     refuse (not (is_free (s.number e).state)) Exists
-    ∷ refuse (not (length pages == page_count setup image)) Count
+    ∷ refuse (not (length pages == image_page_count setup image)) Count
     ∷ option_map Twice (first_twice pages)
     ∷ page_refusals setup s pages)
 
