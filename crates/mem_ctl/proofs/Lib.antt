@@ -1,4 +1,5 @@
 pub mod AccessLemmas
+pub mod CallLemmas
 pub mod MountLemmas
 pub mod PageLemmas
 pub mod PathLoop

@@ -4,6 +4,7 @@
 mod broken;
 mod check;
 mod ctl;
+mod mount;
 
 pub use broken::{Broken, Collision};
 pub use ctl::Ctl;
