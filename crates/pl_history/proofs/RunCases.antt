@@ -17,7 +17,8 @@ use Rattle.pl_history.specs.declared.answer.Answer.TheVariants as answer_is
 use Rattle.pl_history.specs.declared.line.Line.TheVariants.{Resume}
 use Rattle.pl_history.specs.Legal.{AllowedAnswer, after_answer}
 use Rattle.pl_history.specs.Monitor.{Number, free_number, flat_image, with_number}
-use Rattle.pl_history.specs.Running.{needs_page, obstacle, EndsBy, MayLeave, run_refusal}
+use Rattle.pl_base.specs.States.{run_refusal}
+use Rattle.pl_history.specs.Running.{needs_page, obstacle, EndsBy, MayLeave}
 use Rattle.pl_history.specs.Words.{send_refusal, take_refusal}
 use Rattle.pl_history.proofs.CaseStates.{enc, exits_42, three_pages, quiet, state}
 

@@ -21,20 +21,22 @@ host_byte s address =
     let page = (address - page_start 0) / 4096 in
     if is_host (s.owner page) then slice_get (s.bytes page) (address % 4096) else None
 
--- one of these bytes, from an address on, is another than the host's at its address
+-- a byte is another than the host's at its address
 abbrev pub is_other : ℕ → Option ℕ → Bool
 is_other byte None = false
 is_other byte (Some old) = not (old == byte)
 
+-- one of these bytes, from an address on, is another than the host's
 abbrev pub changes_host : Monitor → ℕ → List ℕ → Bool
 changes_host s address [] = false
 changes_host s address (byte ∷ bytes) = is_other byte (host_byte s address) || changes_host s (address + 1) bytes
 
--- each of these bytes, from an address on, is the host's
+-- a byte is the host's
 abbrev pub is_there : Option ℕ → Bool
 is_there None = false
 is_there (Some byte) = true
 
+-- each of these bytes, from an address on, is the host's
 abbrev pub lies_in_host : Monitor → ℕ → List ℕ → Bool
 lies_in_host s address [] = true
 lies_in_host s address (byte ∷ bytes) = is_there (host_byte s address) && lies_in_host s (address + 1) bytes
@@ -94,8 +96,8 @@ AllowedKept s address count part begun now = ⊥
 -- ---- what they change
 
 -- a page with the bytes from an address on, as far as they fall into it
-abbrev pub page_written : ℕ → List ℕ → Placed → List ℕ
-page_written page old now =
+abbrev pub attacked_page : ℕ → List ℕ → Placed → List ℕ
+attacked_page page old now =
     let start = now.address - page_start page in
     with_bytes old start (take (4096 - start) (drop (page_start page - now.address) now.bytes))
 
@@ -106,4 +108,4 @@ with_attack s now true = record s { attacks = s.attacks ++ record { address = no
 -- the host's pages take the bytes, and an attack that changed a byte is remembered
 abbrev pub written : Monitor → Placed → Bool → Monitor
 written s now changed =
-    with_attack (record s { bytes = λ page. if is_host (s.owner page) then page_written page (s.bytes page) now else s.bytes page }) now changed
+    with_attack (record s { bytes = λ page. if is_host (s.owner page) then attacked_page page (s.bytes page) now else s.bytes page }) now changed

@@ -1,5 +1,4 @@
 pub mod Rules
-pub mod Space
 pub mod Protection
 pub mod Monitor
 pub mod NumberSpace
@@ -24,6 +23,7 @@ pub use Rattle.pl_base.specs.Bytes
 pub use Rattle.pl_base.specs.Pages
 pub use Rattle.pl_base.specs.Refusals
 pub use Rattle.pl_base.specs.States
+pub use Rattle.mon_tables.specs.Space
 pub use Rattle.pl_io.specs.Puts
 pub use Rattle.rv_alone.specs.Alone
 pub use Rattle.rv_alone.specs.Flat

@@ -11,7 +11,7 @@ use Rattle.mem_geom.specs.PathPlaces.{page_places}
 use Rattle.pl_history.specs.declared.line.Line.{Line}
 use Rattle.pl_history.specs.declared.line.Line.TheVariants as line
 use Rattle.pl_history.specs.declared.setup.SetupParts.{SetupParts}
-use Rattle.pl_history.specs.Monitor.{Attack, Monitor, held}
+use Rattle.pl_history.specs.Monitor.{Attack, Monitor, pages_taken}
 
 -- the host's root and middle tables, and the last-level table of an address, where there is one
 abbrev pub host_tables : ℕ → Va → List ℕ
@@ -28,7 +28,7 @@ parent_pages s (Some parent) = (s.number parent).pages
 
 -- the pages that the making or a run of a number reads and writes
 abbrev pub number_pages : SetupParts → Monitor → ℕ → List ℕ
-number_pages setup s e = number_tables setup.tables e ++ (held (s.number e) ++ parent_pages s (s.number e).parent)
+number_pages setup s e = number_tables setup.tables e ++ (pages_taken (s.number e) ++ parent_pages s (s.number e).parent)
 
 -- the guarded and loaded pages that a line concerns
 abbrev pub pages_concerned : SetupParts → Monitor → Line → List ℕ
@@ -48,7 +48,7 @@ pages_concerned setup s (line.Destroy e) = []
 pages_concerned setup s (line.Drop e) = []
 pages_concerned setup s (line.After actor count) = []
 
--- a place of the root table, which every path ends in, or a place on the path of one of these pages
+-- a place of the root table, by which any mounting or eviction comes, or a place on the path of one of these pages
 abbrev pub LiesOnPath : List ℕ → Place → Type 0
 LiesOnPath pages (RootNode level index) = Unit {0}
 LiesOnPath pages place = (page : ℕ) × Contains pages page × Contains (page_places page) place

@@ -2,7 +2,7 @@
 ghost use Rattle.std.specs.Prelude.{◌≡◌, ◌<◌, ◌^◌, ◌==◌, ℕ, true, find};
 ghost use Rattle.rv_pmp.specs.declared.rule.Rule.{Rule};
 ghost use Rattle.rv_pmp.specs.Rule.{is_valid};
-ghost use Rattle.pl_history.specs.Protection.{entry_at, entry_of_setup, protection_of};
+ghost use Rattle.pl_history.specs.Protection.{rule_at, entry_of_setup, pmp_of};
 ghost use Rattle.pl_history.specs.Rules.{IsSetup, is_protection};
 
 use crate::pages::{all_pages, guarded_pages};
@@ -18,10 +18,10 @@ const UP_TO_READABLE: u8 = 9;
 const UP_TO_OPEN: u8 = 15;
 
 // The entry whose register holds bits 55:2 of an address.
-fn entry_at(cfg: u8, address: u64) -> Rule
-    requires cfg { is_valid (entry_at cfg 0) ≡ true }
+fn rule_at(cfg: u8, address: u64) -> Rule
+    requires cfg { is_valid (rule_at cfg 0) ≡ true }
     requires address { address < 2 ^ 56 }
-    ensures value { result ≡ entry_at cfg address }
+    ensures value { result ≡ rule_at cfg address }
     ensures valid { is_valid result ≡ true }
 {
     Rule {
@@ -45,7 +45,7 @@ fn entry_of_setup(entries: &[(u8, Rule)], number: u8) -> Rule
 {
     match given_entry(entries, number) {
         Some(entry) => entry.1,
-        None => entry_at(OFF, 0),
+        None => rule_at(OFF, 0),
     }
 }
 
@@ -53,12 +53,12 @@ impl SetupParts {
     /// The sixteen protection entries of every hart.
     pub fn protection(&self) -> Pmp
         requires { IsSetup self.now }
-        ensures { result ≡ protection_of self.now }
+        ensures { result ≡ pmp_of self.now }
     {
         let entries = self.pmp.as_slice();
         Pmp::new([
-            entry_at(OFF, page_start(0)),
-            entry_at(
+            rule_at(OFF, page_start(0)),
+            rule_at(
                 UP_TO_READABLE,
                 page_start(guarded_pages(self.tables, self.enclaves)),
             ),
@@ -73,9 +73,9 @@ impl SetupParts {
             entry_of_setup(entries, 10),
             entry_of_setup(entries, 11),
             entry_of_setup(entries, 12),
-            entry_at(OFF, page_start(0)),
-            entry_at(UP_TO_OPEN, page_start(all_pages(self.zones))),
-            entry_at(OFF, 0),
+            rule_at(OFF, page_start(0)),
+            rule_at(UP_TO_OPEN, page_start(all_pages(self.zones))),
+            rule_at(OFF, 0),
         ])
     }
 }

@@ -15,7 +15,8 @@ use Rattle.pl_base.specs.Refusals.{refuse, first_refusal}
 use Rattle.pl_base.specs.States.{is_free}
 use Rattle.pl_history.specs.declared.setup.SetupParts.{SetupParts}
 use Rattle.pl_history.specs.Monitor.{Monitor, is_host}
-use Rattle.pl_history.specs.Making.{image_page_count, first_twice, first_not_host, first_mapped, create_refusal}
+use Rattle.pl_base.specs.Pages.{first_twice}
+use Rattle.pl_history.specs.Making.{image_page_count, first_not_host, first_mapped, create_refusal}
 use Rattle.world_core.specs.declared.owners.Owner.{Owner as Kept}
 use Rattle.world_core.specs.Owners.{owner_kept, owner_of}
 use Rattle.world_core.specs.Pages.{AreApart}

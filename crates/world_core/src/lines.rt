@@ -4,7 +4,7 @@ ghost use Rattle.pl_base.specs.States.{is_absent, is_fresh, is_paused};
 ghost use Rattle.pl_history.specs.History.{part_end};
 ghost use Rattle.pl_history.specs.Monitor.{script_of};
 ghost use Rattle.pl_history.specs.Rules.{IsSetup};
-ghost use Rattle.pl_history.specs.Running.{run_refusal};
+ghost use Rattle.pl_base.specs.States.{run_refusal};
 ghost use Rattle.world_core.specs.Unbuilt.{is_built};
 ghost use Rattle.world_core.specs.Worlds.{Follows, Names, entry_of, run_line};
 

@@ -14,7 +14,8 @@ use Rattle.pl_history.specs.declared.line.Line.{Line}
 use Rattle.pl_history.specs.declared.line.Line.TheVariants as line
 use Rattle.pl_history.specs.declared.line.AttackLine.{AttackLine}
 use Rattle.pl_history.specs.declared.line.AttackLine.TheVariants as attack
-use Rattle.pl_history.specs.Rules.{is_within, are_perms, is_page_list, is_line, is_attack_line, is_name}
+use Rattle.pl_base.specs.Perms.{are_page_perms}
+use Rattle.pl_history.specs.Rules.{is_within, is_page_list, is_line, is_attack_line, is_name}
 use Rattle.world_setup.specs.declared.page_lists.PageRange.{PageRange}
 use Rattle.world_setup.specs.Words.{parts_of, words_of}
 use Rattle.world_setup.specs.Arguments.{within, small_number_of, short_of, enclave_of, budget_of, length_of, address_of, perms_of_text, decoded, bytes_of_hex, hex_bytes_of, name_of}
@@ -32,9 +33,9 @@ within_passes low high (Some n) = guarded_passes (is_within low high) (is_within
 at_least_1 : (text : List ℕ) (n : ℕ) → budget_of text ≡ Some n → nat_le 1 n ≡ true
 at_least_1 text n is = (both_parts (nat_le 1 n) (nat_le n 0xffff_ffff) (within_passes 1 0xffff_ffff (dec_value text) n is)).0
 
-pub perms_pass : (text : List ℕ) → Passes (λ (p : Perms). are_perms p.0) (perms_of_text text)
+pub perms_pass : (text : List ℕ) → Passes (λ (p : Perms). are_page_perms p) (perms_of_text text)
 perms_pass text =
-    let test = λ (p : Perms). are_perms p.0 in
+    let test = λ (p : Perms). are_page_perms p in
     if_passes test (bytes_eq text (codes "r")) _ _ (some_passes test (record { 0 = 1 }) refl)
     (if_passes test (bytes_eq text (codes "rw")) _ _ (some_passes test (record { 0 = 3 }) refl)
     (if_passes test (bytes_eq text (codes "rx")) _ _ (some_passes test (record { 0 = 5 }) refl)

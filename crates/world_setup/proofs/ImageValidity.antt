@@ -8,7 +8,8 @@ use Rattle.toml.specs.Data.{Data, Members, get_member}
 use Rattle.pl_base.specs.declared.perms.Perms.{Perms}
 use Rattle.mon_image.specs.declared.page.ImagePage.{ImagePage}
 use Rattle.mon_image.specs.declared.image.Image.{Image}
-use Rattle.pl_history.specs.Rules.{is_within, are_perms, is_page, is_entry, is_image}
+use Rattle.pl_base.specs.Perms.{are_page_perms}
+use Rattle.pl_history.specs.Rules.{is_within, is_page, is_entry, is_image}
 use Rattle.world_setup.specs.TomlData.{members_in, text_at}
 use Rattle.world_setup.specs.Arguments.{perms_of_text}
 use Rattle.world_setup.specs.Keys.{images_in, pages_in}
@@ -21,7 +22,7 @@ use Rattle.world_setup.proofs.ImageRules.{images_fit}
 page_size : (bytes : List ℕ) → length (page_of_bytes bytes) ≡ 4096
 page_size bytes = omega (arith, length-append (take 4096 bytes) (replicate (4096 - length bytes) 0), length-take 4096 bytes, length-replicate {A = ℕ} (4096 - length bytes) 0)
 
-page_from : (perms : Perms) (o : Option (List ℕ)) (page : ImagePage) → are_perms perms.0 ≡ true → option_map (λ bytes. record { perms = perms; bytes = page_of_bytes bytes }) o ≡ Some page → is_page page ≡ true
+page_from : (perms : Perms) (o : Option (List ℕ)) (page : ImagePage) → are_page_perms perms ≡ true → option_map (λ bytes. record { perms = perms; bytes = page_of_bytes bytes }) o ≡ Some page → is_page page ≡ true
 page_from perms None page allowed is = cc
 page_from perms (Some bytes) page allowed is =
     let made : ImagePage = record { perms = perms; bytes = page_of_bytes bytes } in
