@@ -10,7 +10,7 @@ use Rattle.pl_history.specs.declared.line.AttackLine.{AttackLine}
 use Rattle.pl_history.specs.declared.setup.ChoiceName.TheVariants.{Oldest}
 use Rattle.pl_history.specs.declared.setup.SetupParts.{SetupParts}
 use Rattle.pl_history.specs.Monitor.{Owner, number, Number, Monitor, free_number, first_owner}
-use Rattle.pl_history.specs.Space.{Mapping}
+use Rattle.mon_tables.specs.Space.{Mapping}
 
 abbrev pub va : ℕ → Va
 va address = record { 0 = address }

@@ -21,7 +21,7 @@ use Rattle.pl_history.specs.Answering.{FaultsOr}
 use Rattle.pl_history.specs.Licence.{Licensed}
 use Rattle.pl_history.specs.Monitor.{Monitor, removed_at}
 use Rattle.pl_history.specs.Protection.{protection_of}
-use Rattle.pl_history.specs.Space.{Mapping, mapping_at}
+use Rattle.mon_tables.specs.Space.{Mapping, mapping_at}
 
 -- ---- the answers
 

@@ -13,7 +13,7 @@ use Rattle.pl_history.specs.declared.setup.SetupParts.{SetupParts}
 use Rattle.pl_history.specs.Answering.{AtOnce, Begins, FaultsOr, EndsDone}
 use Rattle.pl_history.specs.Licence.{Licensed}
 use Rattle.pl_history.specs.Monitor.{Removal, Monitor, is_host, removed_at}
-use Rattle.pl_history.specs.Space.{Mapping, mapping_at, without_vpn}
+use Rattle.mon_tables.specs.Space.{Mapping, mapping_at, without_vpn}
 
 -- ---- the answers
 

@@ -10,7 +10,7 @@ use Rattle.rv_alone.specs.Flat as flat
 use Rattle.pl_history.specs.declared.line.Line.{Line}
 use Rattle.pl_history.specs.declared.setup.SetupParts.{SetupParts}
 use Rattle.pl_history.specs.Rules.{guarded_of, pages_of}
-use Rattle.pl_history.specs.Space.{Mapping, count_of_page}
+use Rattle.mon_tables.specs.Space.{Mapping, count_of_page}
 
 pub data Owner : Type 0 where
   guard : Owner

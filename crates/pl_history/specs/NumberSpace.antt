@@ -5,7 +5,7 @@ use Rattle.pl_base.specs.declared.perms.Perms.{Perms}
 use Rattle.rv_alone.specs.Flat.{Image, Page}
 use Rattle.pl_history.specs.declared.setup.SetupParts.{SetupParts}
 use Rattle.pl_history.specs.Monitor.{Number, image_at}
-use Rattle.pl_history.specs.Space.{Mapping, without_write}
+use Rattle.mon_tables.specs.Space.{Mapping, without_write}
 
 -- the first place of a page of the image in a list
 abbrev pub place_in : ℕ → List ℕ → Option ℕ
