@@ -1,12 +1,11 @@
 -- Host accesses and mappings, tried on small states.
-use Rattle.std.proofs.Common.{◌≡◌, ℕ, ◌+◌, ◌-◌, ◌^◌, true, false, List, [], ◌∷◌, map, Option, Some, None, Contains, refl, inl, inr, lit<}
+use Rattle.std.proofs.Common.{◌≡◌, ◌+◌, ◌-◌, ◌^◌, true, false, [], ◌∷◌, map, Some, None, Contains, refl, inl, inr, lit<}
 use Rattle.mem_geom.specs.PathPlaces as places
 use Rattle.mem_geom.specs.PathPlaces.{page_places}
-use Rattle.pl_base.specs.declared.place.Place.TheVariants.{Block, Node, RootNode}
+use Rattle.pl_base.specs.declared.place.Place.TheVariants.{Block, RootNode}
 use Rattle.pl_base.specs.declared.refusal.No.TheVariants as no_is
 use Rattle.pl_history.specs.declared.answer.Answer.TheVariants as answer_is
-use Rattle.pl_history.specs.declared.line.Line.TheVariants.{Load, Send}
-use Rattle.pl_history.specs.Answering.{FaultsOr}
+use Rattle.pl_history.specs.declared.line.Line.TheVariants.{Load}
 use Rattle.pl_history.specs.HostAccess.{address_refusal, load_by, store_by, AllowedLoad, AllowedStore, host_stored}
 use Rattle.pl_history.specs.HostMaps.{map_refusal, unmap_refusal, AllowedMap, AllowedUnmap, mapped, removing, removed}
 use Rattle.pl_history.specs.Licence.{Licensed}

@@ -1,7 +1,6 @@
 -- The attacker's lines, tried on small states.
 use Rattle.std.proofs.Common.{◌≡◌, ℕ, ◌+◌, ◌*◌, true, false, List, [], ◌∷◌, map, take, Option, Some, None, ◌==◌, ap, refl, lit≤}
 use Rattle.std.specs.Option.{option_map_or}
-use Rattle.pl_history.specs.declared.answer.Answer.{Answer}
 use Rattle.pl_history.specs.declared.answer.Answer.TheVariants as answer_is
 use Rattle.pl_history.specs.declared.answer.Entry.{Entry}
 use Rattle.pl_history.specs.declared.line.AttackLine.{AttackLine}
@@ -9,7 +8,6 @@ use Rattle.pl_history.specs.declared.line.AttackLine.TheVariants as attack
 use Rattle.pl_history.specs.declared.setup.SetupParts.{SetupParts}
 use Rattle.pl_history.specs.Attacking.{Placed, may_say_changed, attacked_page, latest_kept, written}
 use Rattle.pl_history.specs.Legal.{AllowedAttack}
-use Rattle.pl_history.specs.Monitor.{Monitor}
 use Rattle.pl_history.specs.Waiting.{AllowedAfter}
 use Rattle.pl_history.proofs.CaseStates.{small, state}
 

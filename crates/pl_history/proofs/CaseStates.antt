@@ -1,8 +1,7 @@
 -- A small setup and a state of it, on which the definitions are tried against values worked by hand.
-use Rattle.std.proofs.Common.{ℕ, ◌==◌, if◌then◌else◌, true, false, List, [], ◌∷◌, Option, Some, None}
+use Rattle.std.proofs.Common.{ℕ, ◌==◌, if◌then◌else◌, true, false, List, [], ◌∷◌, Option, Some}
 use Rattle.pl_base.specs.declared.address.Va.{Va}
 use Rattle.pl_base.specs.declared.number.EncNo.{EncNo}
-use Rattle.pl_base.specs.declared.state.State.{State}
 use Rattle.pl_base.specs.declared.state.State.TheVariants as state_is
 use Rattle.mon_image.specs.declared.image.Image.{Image}
 use Rattle.pl_history.specs.declared.line.Line.{Line}

@@ -8,12 +8,12 @@ use Rattle.pl_base.specs.declared.refusal.No.{No}
 use Rattle.pl_base.specs.declared.refusal.No.TheVariants as no_is
 use Rattle.pl_base.specs.declared.state.State.TheVariants as state_is
 use Rattle.pl_history.specs.declared.answer.Answer.TheVariants as answer_is
-use Rattle.pl_history.specs.declared.line.Line.TheVariants.{Create, Shadow, Fork, Grant, Destroy}
+use Rattle.pl_history.specs.declared.line.Line.TheVariants.{Create, Grant, Destroy}
+use Rattle.pl_base.specs.Pages.{first_twice}
 use Rattle.pl_base.specs.States.{destroy_refusal}
 use Rattle.pl_history.specs.GivingBack.{drop_refusal, dying, given_back, zeros}
 use Rattle.pl_history.specs.Legal.{AllowedAnswer, after_answer}
-use Rattle.pl_base.specs.Pages.{first_twice}
-use Rattle.pl_history.specs.Making.{first_barred, create_refusal, fork_refusal, grant_refusal, building, forking, made, sealed, made_faulted, granted}
+use Rattle.pl_history.specs.Making.{first_barred, create_refusal, fork_refusal, grant_refusal, building, forking, made, sealed, granted}
 use Rattle.pl_history.specs.Monitor.{host, number, Number, Monitor, free_number, with_number}
 use Rattle.pl_history.specs.NumberSpace.{mappings_of_number}
 use Rattle.pl_history.proofs.CaseStates.{enc, quiet, map_to, state}

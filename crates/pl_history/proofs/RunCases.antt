@@ -10,7 +10,6 @@ use Rattle.pl_base.specs.declared.refusal.No.{No}
 use Rattle.pl_base.specs.declared.refusal.No.TheVariants as no_is
 use Rattle.pl_base.specs.declared.state.State.{State}
 use Rattle.pl_base.specs.declared.state.State.TheVariants as state_is
-use Rattle.pl_base.specs.declared.state.Why.{Why}
 use Rattle.pl_base.specs.declared.state.Why.TheVariants as why_is
 use Rattle.pl_base.specs.States.{is_fresh, is_paused}
 use Rattle.pl_history.specs.declared.answer.Answer.TheVariants as answer_is

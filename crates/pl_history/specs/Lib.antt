@@ -19,6 +19,7 @@ pub mod Text
 pub use Rattle.mem_geom.specs.Layout
 pub use Rattle.mem_geom.specs.PathPlaces
 pub use Rattle.mem_geom.specs.Ranges
+pub use Rattle.mon_tables.specs.Space
 pub use Rattle.pl_base.specs.Bytes
 pub use Rattle.pl_base.specs.Pages
 pub use Rattle.pl_base.specs.Refusals
