@@ -1,4 +1,5 @@
 ghost use Rattle.std.specs.Prelude.{◌≡◌, ◌+◌, ◌-◌, ◌≤◌, length, All, IfOk};
+ghost use Rattle.std.specs.Str.{bytes_eq};
 ghost use Rattle.pl_base.specs.Bytes.{bytes_at, with_bytes};
 ghost use Rattle.mem_geom.specs.Layout.{memory_size};
 
@@ -50,6 +51,16 @@ impl Dram {
     {
         let at = (pa - MEMORY_START) as usize;
         into.copy_from_slice(&self.bytes[at..at + into.len()]);
+    }
+
+    /// Whether these bytes stand from an address on.
+    pub fn holds(&self, pa: u64, bytes: &[u8]) -> bool
+        requires from { 0x80000000 ≤ pa }
+        requires to { pa + length bytes.now ≤ 0x80000000 + length self.now }
+        ensures { result ≡ bytes_eq (bytes_at self.now (pa - 0x80000000) (length bytes.now)) bytes.now }
+    {
+        let at = (pa - MEMORY_START) as usize;
+        &self.bytes[at..at + bytes.len()] == bytes
     }
 
     /// Writes bytes from an address on. All others stay.

@@ -11,7 +11,7 @@ use Rattle.pl_history.specs.declared.line.AttackLine.{AttackLine}
 use Rattle.pl_history.specs.declared.line.AttackLine.TheVariants as attack
 use Rattle.pl_history.specs.declared.setup.SetupParts.{SetupParts}
 use Rattle.pl_history.specs.History.{named_part}
-use Rattle.pl_history.specs.Monitor.{Attack, Monitor, is_host}
+use Rattle.pl_history.specs.Monitor.{Monitor, is_host}
 
 -- ---- bytes of the host's pages, by their address off chip
 

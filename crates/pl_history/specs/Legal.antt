@@ -11,7 +11,7 @@ use Rattle.pl_history.specs.declared.answer.Answer.TheVariants as answer_is
 use Rattle.pl_history.specs.declared.answer.Entry.{Entry}
 use Rattle.pl_history.specs.declared.setup.SetupParts.{SetupParts}
 use Rattle.pl_history.specs.Answering.{Changes, unchanged, change_by, progressed}
-use Rattle.pl_history.specs.Attacking.{Placed, latest_kept, AllowedWrote, AllowedKept, written}
+use Rattle.pl_history.specs.Attacking.{latest_kept, AllowedWrote, AllowedKept, written}
 use Rattle.pl_history.specs.GivingBack.{AllowedDestroy, AllowedDrop, dying, given_back}
 use Rattle.pl_history.specs.History.{named_part}
 use Rattle.pl_history.specs.HostAccess.{AllowedLoad, AllowedStore, stored}

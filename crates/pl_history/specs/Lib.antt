@@ -17,3 +17,14 @@ pub mod Waiting
 pub mod Legal
 pub mod Laws
 pub mod Text
+pub use Rattle.mem_geom.specs.Layout
+pub use Rattle.mem_geom.specs.PathPlaces
+pub use Rattle.mem_geom.specs.Ranges
+pub use Rattle.pl_base.specs.Bytes
+pub use Rattle.pl_base.specs.Pages
+pub use Rattle.pl_base.specs.Refusals
+pub use Rattle.pl_base.specs.States
+pub use Rattle.pl_io.specs.Puts
+pub use Rattle.rv_alone.specs.Alone
+pub use Rattle.rv_alone.specs.Flat
+pub use Rattle.rv_pmp.specs.Pmp

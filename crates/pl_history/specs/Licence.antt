@@ -4,7 +4,7 @@ use Rattle.std.specs.List.{list_any}
 use Rattle.pl_base.specs.Address.{vpn_of}
 use Rattle.pl_base.specs.declared.address.Va.{Va}
 use Rattle.pl_base.specs.declared.place.Place.{Place}
-use Rattle.pl_base.specs.declared.place.Place.TheVariants.{Block, Node, RootNode}
+use Rattle.pl_base.specs.declared.place.Place.TheVariants.{RootNode}
 use Rattle.mem_geom.specs.Layout.{Exists}
 use Rattle.mem_geom.specs.Ranges.{overlaps_place}
 use Rattle.mem_geom.specs.PathPlaces.{page_places}

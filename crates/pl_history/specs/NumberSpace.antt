@@ -33,6 +33,6 @@ mappings_from number n broken at (page ∷ pages) =
 
 -- The space of a number, which has broken these pages of its image so far, in order. A number that isn't live has none: one that is
 -- free, building, sealed or dying, or was stopped by a fault while it was made.
-abbrev pub space_of : SetupParts → (ℕ → Number) → Number → List ℕ → List Mapping
-space_of setup number n broken =
+abbrev pub mappings_of_number : SetupParts → (ℕ → Number) → Number → List ℕ → List Mapping
+mappings_of_number setup number n broken =
     if n.live then option_map_or (λ (image : Image). mappings_from number n broken 0 image.pages) (image_at setup n.image) [] else []

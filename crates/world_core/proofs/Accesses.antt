@@ -1,5 +1,5 @@
 -- Accesses to an enclave's pages in memory are those of the flat machine.
-use Rattle.std.proofs.Common.{◌≡◌, ◌≢◌, ℕ, zero, suc, ◌<◌, ◌%◌, Bool, true, false, cond, leb, List, [], ◌∷◌, length, set, drop, Option, Some, None, option_and_then, slice_get, refl, ap, sym, ◌∙◌, subst, arith, unwrap_or, inl, inr, eqb, ◌||◌}
+use Rattle.std.proofs.Common.{◌≡◌, ◌≢◌, ℕ, zero, suc, ◌<◌, ◌%◌, Bool, true, false, cond, leb, List, [], ◌∷◌, length, set, Option, Some, None, option_and_then, slice_get, refl, ap, sym, ◌∙◌, subst, arith, unwrap_or, inl, inr, eqb, ◌||◌}
 use Rattle.std.specs.Option.{option_map}
 use Rattle.std.specs.List.{All}
 use Rattle.std.proofs.lemmas.Bool.{cases_Bool, false≢true}

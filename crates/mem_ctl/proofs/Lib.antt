@@ -1,0 +1,12 @@
+pub mod AccessLemmas
+pub mod CallLemmas
+pub mod MountLemmas
+pub mod PageLemmas
+pub mod PathLoop
+pub mod RenewedLemmas
+pub mod RootLemmas
+pub mod SlotLemmas
+pub mod WordWrites
+pub mod WriteLemmas
+pub mod ZoneLemmas
+pub mod ZoneUpdates

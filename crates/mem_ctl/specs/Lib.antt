@@ -1,0 +1,6 @@
+pub mod Calls
+pub mod Data
+pub mod Mounting
+pub mod Results
+pub mod TreesHold
+pub mod Writes

@@ -1,0 +1,10 @@
+//! The memory controller: words and pages through hash trees that are mounted in slots.
+#![tactic(auto)]
+
+mod broken;
+mod check;
+mod ctl;
+mod mount;
+
+pub use broken::{Broken, Collision};
+pub use ctl::Ctl;

@@ -1,0 +1,26 @@
+-- Address spaces as lists of mappings (own).
+use Rattle.std.specs.Prelude.{ℕ, ◌==◌, not, List, filter, find, count_by, Option}
+use Rattle.std.specs.Int.RustNames.{bit_and}
+use Rattle.pl_base.specs.declared.perms.Perms.{Perms}
+
+-- a mapping: the page that a virtual page number leads to, and what may be done with it
+pub record Mapping : Type 0 where
+  pub vpn : ℕ
+  pub page : ℕ
+  pub perms : Perms
+
+-- the mapping of a virtual page number, where a space has one
+abbrev pub mapping_at : List Mapping → ℕ → Option Mapping
+mapping_at space vpn = find (λ (m : Mapping). m.vpn == vpn) space
+
+-- how often a page stands in a space
+abbrev pub count_of_page : List Mapping → ℕ → ℕ
+count_of_page space page = count_by (λ (m : Mapping). m.page == page) space
+
+-- a space without the mappings of a virtual page number
+abbrev pub without_vpn : List Mapping → ℕ → List Mapping
+without_vpn space vpn = filter (λ (m : Mapping). not (m.vpn == vpn)) space
+
+-- permissions without W
+abbrev pub without_write : Perms → Perms
+without_write perms = record { 0 = bit_and perms.0 5 }
