@@ -1,11 +1,14 @@
+pub mod AccessCalls
 pub mod AccessLemmas
 pub mod CallLemmas
 pub mod MountLemmas
 pub mod PageLemmas
 pub mod PathLoop
+pub mod ReadLemmas
 pub mod RenewedLemmas
 pub mod RootLemmas
 pub mod SlotLemmas
+pub mod WordCalls
 pub mod WordWrites
 pub mod WriteLemmas
 pub mod ZoneLemmas

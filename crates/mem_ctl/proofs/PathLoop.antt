@@ -1,9 +1,15 @@
 -- The check of a path, place by place.
+use Rattle.std.specs.List.{find}
+use Rattle.mem_tree.specs.declared.sealed.Verdict.{Verdict}
+use Rattle.mem_tree.specs.Words.{verdict_of}
+use Rattle.mem_ctl.specs.Results.{is_break, part_checked}
+use Rattle.mem_tree.proofs.PathPlaces.{is_same}
 use Rattle.std.proofs.Common.{◌≡◌, ℕ, zero, suc, ◌<◌, ◌≤◌, Bool, true, false, cond, not, ◌&&◌, List, [], ◌∷◌, ◌++◌, length, drop, get_or, Option, Some, None, is_some, refl, subst, sym, ap, ◌∙◌, arith}
 use Rattle.std.specs.Prelude.{Err}
 use Rattle.std.specs.Option.{option_map_or}
 use Rattle.std.specs.Str.{bytes_eq}
-use Rattle.std.proofs.lemmas.Bool.{cond-false, cond-true, false≢true}
+use mathlib.Core.Logic.{inl, inr}
+use Rattle.std.proofs.lemmas.Bool.{cases_Bool, cond-false, cond-true, false≢true}
 use Rattle.std.proofs.lemmas.List.{append_assoc, drop_all}
 use Rattle.pl_base.specs.declared.place.Place.{Place}
 use Rattle.pl_digest.specs.Nodes.{entry}
@@ -92,3 +98,53 @@ module _ (d : List ℕ → List ℕ) (path : Path) (written : Place → List ℕ
 
     pub loop_ends : length path.places ≤ i → Holds ≡ check d path written
     loop_ends all = sym (so_far ∙ ap (check_on d path written) (drop_all i path.places all))
+
+-- ---- a path whose first break is known
+
+found-passes : (t : Place → Bool) (ps : List Place) (q : Place) → find t ps ≡ Some q → t q ≡ true
+found-passes t [] q h = cc
+found-passes t (p ∷ ps) q h = elim (cases_Bool (t p)) [
+  | inl here ↦ let e : Some p ≡ Some q = sym (cond-true (t p) (Some p) (find t ps) here) ∙ h in let same : p ≡ q = cc in ap t (sym same) ∙ here
+  | inr past ↦ found-passes t ps q (sym (cond-false (t p) (Some p) (find t ps) past) ∙ h)
+]
+
+same_by : (b c : Bool) → (b ≡ true → c ≡ true) → (c ≡ true → b ≡ true) → b ≡ c
+same_by true c there back = sym (there refl)
+same_by false true there back = back refl
+same_by false false there back = refl
+
+-- whether the first of some places breaks, by the first of them that does
+breaks-first : (t : Place → Bool) (p : Place) (ps : List Place) → is_break (verdict_of (find t (p ∷ ps))) p ≡ t p
+breaks-first t p ps = elim (cases_Bool (t p)) [
+  | inl here ↦ ap (λ (o : Option Place). is_break (verdict_of o) p) (cond-true (t p) (Some p) (find t ps) here) ∙ same_place-refl p ∙ sym here
+  | inr past ↦ ap (λ (o : Option Place). is_break (verdict_of o) p) (cond-false (t p) (Some p) (find t ps) past) ∙ not_later (find t ps) refl past ∙ sym past
+]
+  where
+    not_later : (o : Option Place) → find t ps ≡ o → t p ≡ false → is_break (verdict_of o) p ≡ false
+    not_later None is past = refl
+    not_later (Some q) is past = same_by (same_place q p) false (λ same. sym (sym (found-passes t ps q is) ∙ ap t (is_same q p same) ∙ past)) (λ h. absurd (false≢true h))
+
+module _ (d : List ℕ → List ℕ) (path : Path) (written : Place → List ℕ) (verdict : Verdict) (is : verdict ≡ verdict_of (find (breaks d path) path.places)) (i : ℕ)
+    (left : find (breaks d path) path.places ≡ find (breaks d path) (drop i path.places)) (there : i < length path.places) (e : Place) where
+  abbrev here : Place
+  here = get_or path.places i e
+
+  broken_here : is_break verdict here ≡ breaks d path here
+  broken_here =
+      ap (λ (v : Verdict). is_break v here) (is ∙ ap verdict_of (left ∙ ap (find (breaks d path)) (drop_place path.places i (suc i) e there refl)))
+      ∙ breaks-first (breaks d path) here (drop (suc i) path.places)
+
+  pub sealed_step : part_checked d (is_break verdict here) here (path.bytes here) (written here) ≡ step_at d path written here
+  sealed_step = ap (λ (b : Bool). part_checked d b here (path.bytes here) (written here)) broken_here
+
+  holds_then : (b : Bool) (p : Place) (s t : List ℕ) → Holds ≡ part_checked d b p s t → b ≡ false
+  holds_then true p s t h = absurd (checked_apart p h)
+    where
+      checked_apart : (p : Place) → Holds ≡ Fault p → ⊥
+      checked_apart p h = cc
+  holds_then false p s t h = refl
+
+  pub still_left : (j : ℕ) → j ≡ suc i → Holds ≡ part_checked d (is_break verdict here) here (path.bytes here) (written here) → find (breaks d path) path.places ≡ find (breaks d path) (drop j path.places)
+  still_left j next holds =
+      let fine : breaks d path here ≡ false = sym broken_here ∙ holds_then (is_break verdict here) here (path.bytes here) (written here) holds in
+      left ∙ ap (find (breaks d path)) (drop_place path.places i j e there next) ∙ cond-false (breaks d path here) (Some here) (find (breaks d path) (drop j path.places)) fine

@@ -1,8 +1,12 @@
 -- Results of calls as outcomes, and of checks; a call as its function of the plain data.
-use Rattle.std.specs.Prelude.{ℕ, ◌≡◌, ◌<◌, ◌&&◌, List, [], ◌∷◌, length, not, if◌then◌else◌, Result, Ok, Err}
+use Rattle.std.specs.Prelude.{ℕ, ◌≡◌, ◌<◌, ◌&&◌, Bool, true, false, List, [], ◌∷◌, length, not, if◌then◌else◌, Result, Ok, Err}
 use Rattle.std.specs.Str.{bytes_eq}
 use Rattle.pl_base.specs.declared.place.Place.{Place}
+use Rattle.pl_base.specs.declared.place.Place.TheVariants.{Block, Node, RootNode}
 use Rattle.mem_slots.specs.declared.slot_use.SlotUse.{SlotUse}
+use Rattle.mem_tree.specs.declared.sealed.Verdict.{Verdict}
+use Rattle.mem_tree.specs.declared.sealed.Verdict.TheVariants as verdict
+use Rattle.mem_tree.specs.Paths.{same_place}
 use Rattle.mem_tree.specs.Checks.{Checked, Holds as AllHold, Fault as BreaksAt, Collision as CollidesAt}
 use Rattle.mem_ctl.specs.declared.broken.Broken.{Broken}
 use Rattle.mem_ctl.specs.declared.broken.Broken.TheVariants as broken
@@ -23,6 +27,21 @@ written_checked digest_of place bytes written =
 abbrev pub place_checked : (List ℕ → List ℕ) → List ℕ → Place → List ℕ → List ℕ → Checked
 place_checked digest_of held place bytes written =
     if not (bytes_eq (digest_of bytes) held) then BreaksAt place else written_checked digest_of place bytes written
+
+-- the place is the one at which a sealed path breaks
+abbrev pub is_break : Verdict → Place → Bool
+is_break verdict.Holds place = false
+is_break (verdict.Breaks broken) place = same_place broken place
+
+-- one place of a sealed path, whose break is known
+abbrev pub part_checked : (List ℕ → List ℕ) → Bool → Place → List ℕ → List ℕ → Checked
+part_checked digest_of broken place bytes written = if broken then BreaksAt place else written_checked digest_of place bytes written
+
+-- the place is a block or a node of a zone
+abbrev pub is_of_zone : Place → Bool
+is_of_zone (Block page block) = true
+is_of_zone (Node level zone index) = true
+is_of_zone (RootNode level index) = false
 
 -- what a call answers
 abbrev pub outcome_of : {A : Type 0} → Result A Broken → Outcome A

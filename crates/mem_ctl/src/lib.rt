@@ -5,6 +5,8 @@ mod broken;
 mod check;
 mod ctl;
 mod mount;
+mod sealed;
+mod words;
 
 pub use broken::{Broken, Collision};
 pub use ctl::Ctl;

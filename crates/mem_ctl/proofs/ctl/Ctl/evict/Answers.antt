@@ -76,7 +76,7 @@ returns-clause-call g c =
     let limit : c.take_out.new.self.limit ≡ i.slots.limit = ap (λ (v : SlotList). v.limit) c.take_out.ensures.rest in
     let now : CtlData = ctl_data i.zones c.take_out.new.self.limit c.write_place-2.new.memory c.write_place-4.new.memory c.take_out.new.self.mounted c.replace_root-self-inside.result in
     let full : now ≡ evicted_at d x k =
-        ap (λ (n : ℕ). ctl_data i.zones n c.write_place-2.new.memory c.write_place-4.new.memory c.take_out.new.self.mounted c.replace_root-self-inside.result) limit ∙ done in
+    ap (λ (n : ℕ). ctl_data i.zones n c.write_place-2.new.memory c.write_place-4.new.memory c.take_out.new.self.mounted c.replace_root-self-inside.result) limit ∙ done in
     subst (λ v. IsCall (FnReturnsAt g.F.Fn v.1) (evicted d) v.0 (Value tt) now) c.self.view_is (subst (IsCall (FnReturnsAt g.F.Fn i.choice) (evicted d) x (Value tt)) (sym full) call)
 
 pub invariant_of-self : goal.invariant_of-self
@@ -107,5 +107,5 @@ invariant_of-self g c =
     let limit : c.take_out.new.self.limit ≡ i.slots.limit = ap (λ (v : SlotList). v.limit) c.take_out.ensures.rest in
     let now : CtlData = ctl_data i.zones c.take_out.new.self.limit c.write_place-2.new.memory c.write_place-4.new.memory c.take_out.new.self.mounted c.replace_root-self-inside.result in
     let full : now ≡ evicted_at d x k =
-        ap (λ (n : ℕ). ctl_data i.zones n c.write_place-2.new.memory c.write_place-4.new.memory c.take_out.new.self.mounted c.replace_root-self-inside.result) limit ∙ done in
+    ap (λ (n : ℕ). ctl_data i.zones n c.write_place-2.new.memory c.write_place-4.new.memory c.take_out.new.self.mounted c.replace_root-self-inside.result) limit ∙ done in
     subst (IsKept d) (sym full) (record { trees = kept.trees; some = omega (arith, kept.slots_kept, c.self.invariant.some); few = omega (arith, kept.slots_kept, c.self.invariant.few) })

@@ -1,0 +1,78 @@
+-- A word that is read is the mirror's.
+use Rattle.std.proofs.Common.{◌≡◌, ℕ, ◌+◌, ◌-◌, ◌*◌, ◌/◌, ◌%◌, ◌<◌, ◌≤◌, Option, Some, None, is_some, List, [], length, refl, subst, sym, ap, ◌∙◌, arith}
+use Rattle.std.specs.Prelude.{true, false}
+use Rattle.std.specs.Option.{unwrap_or}
+use Rattle.std.proofs.lemmas.Bool.{false≢true}
+use Rattle.byteorder.specs.Endian.{little_number}
+use Rattle.pl_base.specs.Bytes.{bytes_at}
+use Rattle.pl_base.specs.declared.place.Place.TheVariants.{Block}
+use Rattle.mem_geom.specs.Parts.{page_bytes}
+use Rattle.mem_geom.specs.PathPlaces.{word_places}
+use Rattle.mem_geom.proofs.Parts.{bytes_at-bytes_at}
+use Rattle.mem_slots.specs.declared.slot_use.SlotUse.{SlotUse}
+use Rattle.mem_slots.specs.Slots.{is_mounted, used_slot}
+use Rattle.mem_tree.specs.declared.new_path.NewPath.{NewPath}
+use Rattle.mem_tree.specs.declared.taken.Taken.{Taken}
+use Rattle.mem_tree.specs.Checks.{check, Holds as AllHold}
+use Rattle.mem_tree.specs.Trees.{nth}
+use Rattle.mem_tree.specs.Words.{parts_of, parts_path, taken_path, word_path}
+use Rattle.mem_ctl.specs.Calls.{slot_root, zone_check}
+use Rattle.mem_ctl.specs.Data.{CtlData, Value, going}
+use Rattle.mem_ctl.specs.Mounting.{mounted_for, taken, used, written}
+use Rattle.mem_ctl.specs.Results.{IsCall}
+use Rattle.mem_ctl.specs.TreesHold.{IsKept, TreesHold}
+use Rattle.mem_ctl.specs.Writes.{word_at, zone_pages}
+use Rattle.mem_ctl.proofs.AccessLemmas.{WhereValue, count_use-keeps, mounted_for-says}
+use Rattle.mem_ctl.proofs.MountLemmas.{Keeps, Keeps-then}
+use Rattle.mem_ctl.proofs.SlotLemmas.{is_mounted-map, used_slot-zone}
+use Rattle.mem_ctl.proofs.WordCalls.{word_check, word_of_block, word_tells}
+use Rattle.mem_ctl.proofs.ZoneLemmas.{page_is}
+
+-- a root that is there, whatever stands in its place
+pub root_there : (o : Option (List ℕ)) (a b : List ℕ) → is_some o ≡ true → unwrap_or o a ≡ unwrap_or o b
+root_there (Some r) a b some = refl
+root_there None a b some = absurd (false≢true some)
+
+-- a word of two memories in which the zone has the same pages
+pub same_words : (old new : List ℕ) (page offset : ℕ) → offset < 4096 → offset % 8 ≡ 0 → zone_pages new (page / 64) ≡ zone_pages old (page / 64) → word_at new page offset ≡ word_at old page offset
+same_words old new page offset inside aligned same =
+    let own = λ (memory : List ℕ). bytes_at-bytes_at memory (4096 * page) 4096 offset 8 (omega arith) in
+    let pages : page_bytes new page ≡ page_bytes old page = sym (page_is new page) ∙ ap (λ (ps : List (List ℕ)). nth ps (page % 64)) same ∙ page_is old page in
+    ap (little_number 8) (sym (own new) ∙ ap (λ (bytes : List ℕ). bytes_at bytes offset 8) pages ∙ own old)
+
+-- the check of a sealed path is that of the path where it was taken
+pub sealed_check : {D : _} (d : List ℕ → List ℕ) (x : CtlData) (page b : ℕ) (t : Taken D) → b < 64 → t.page ≡ page → t.block_no ≡ b → parts_of t ≡ word_path (slot_root x (page / 64)) (taken x) page b
+    → check d (taken_path t) (written x) ≡ zone_check d x (page / 64) (word_places page b)
+sealed_check d x page b t below own_page own_block parts =
+    ap (λ (k : ℕ). check d (parts_path k t.block_no (parts_of t)) (written x)) own_page ∙ ap (λ (k : ℕ). check d (parts_path page k (parts_of t)) (written x)) own_block
+    ∙ word_check d x page b (parts_of t) below parts
+
+module _ (d : List ℕ → List ℕ) (law : (m : List ℕ) → length (d m) ≡ 32) (gives : List SlotUse → ℕ → Type 0) (old : CtlData) (kept : IsKept d old) (page : ℕ) (there : page < 64 * old.zones) where
+  -- what a mounting that was made leaves, and the use that is counted after it
+  pub mounting-keeps : (between : CtlData) → IsCall gives (mounted_for d (page / 64)) old (Value tt) between → Keeps d old between
+  mounting-keeps between m =
+      subst (Keeps d old) (sym m.now) (mounted_for-says d law (page / 64) (going old m.positions) kept.trees (omega arith) kept.some).keeps
+
+  pub mounting-mounts : (between : CtlData) → IsCall gives (mounted_for d (page / 64)) old (Value tt) between → is_mounted between.mounted (page / 64) ≡ true
+  mounting-mounts between m =
+      let says = (mounted_for-says d law (page / 64) (going old m.positions) kept.trees (omega arith) kept.some).mounted in
+      ap (λ (x : CtlData). is_mounted x.mounted (page / 64)) m.now
+      ∙ subst (λ o. WhereValue o (is_mounted (mounted_for d (page / 64) (going old m.positions)).after.ctl.mounted (page / 64) ≡ true)) (sym m.is) says
+
+  pub opened-keeps : (between : CtlData) → IsCall gives (mounted_for d (page / 64)) old (Value tt) between → Keeps d old (used between (page / 64))
+  opened-keeps between m =
+      let k = mounting-keeps between m in
+      Keeps-then d old between (used between (page / 64)) k (count_use-keeps d law (page / 64) (going between []) k.trees)
+
+  pub opened-mounted : (between : CtlData) → IsCall gives (mounted_for d (page / 64)) old (Value tt) between → is_mounted (used between (page / 64)).mounted (page / 64) ≡ true
+  opened-mounted between m = is_mounted-map (used_slot (page / 64)) (used_slot-zone (page / 64)) between.mounted (page / 64) ∙ mounting-mounts between m
+
+  pub opened-word : (offset : ℕ) (between new : CtlData) → offset < 4096 → offset % 8 ≡ 0 → IsCall gives (mounted_for d (page / 64)) old (Value tt) between → new ≡ used between (page / 64)
+      → AllHold ≡ zone_check d new (page / 64) (word_places page (offset / 64)) → word_at new.off_chip page offset ≡ word_at old.mirror page offset
+  opened-word offset between new inside aligned m now holds =
+      let k : Keeps d old new = subst (Keeps d old) (sym now) (opened-keeps between m) in
+      let mounted : is_mounted new.mounted (page / 64) ≡ true = ap (λ (x : CtlData). is_mounted x.mounted (page / 64)) now ∙ opened-mounted between m in
+      let b : ℕ = offset / 64 in
+      let all = word_tells d law new k.trees page b (omega (arith, k.zones_kept)) (omega arith) mounted AllHold (sym holds) in
+      sym (word_of_block new.zones new.off_chip page offset aligned) ∙ ap (λ (block : List ℕ). little_number 8 (bytes_at block (offset % 64) 8)) (all 4 (Block page b) (omega arith))
+      ∙ word_of_block new.zones new.mirror page offset aligned ∙ same_words old.mirror new.mirror page offset inside aligned (k.pages_kept (page / 64) (omega arith))

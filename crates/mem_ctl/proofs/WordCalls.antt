@@ -1,0 +1,144 @@
+-- Words: what a path that holds tells of them, and that a write of some of their bytes keeps the trees.
+use Rattle.std.proofs.Common.{◌≡◌, ℕ, ◌+◌, ◌-◌, ◌*◌, ◌/◌, ◌%◌, ◌<◌, ◌≤◌, List, [], ◌∷◌, length, map, take, drop, get_or, refl, subst, sym, ap, ◌∙◌, arith}
+use Rattle.std.specs.Prelude.{All, true}
+use Rattle.std.proofs.lemmas.List.Elements.{All-cons, All-nil}
+use Rattle.byteorder.specs.Endian.{little_number}
+use Rattle.pl_base.specs.Bytes.{bytes_at, with_bytes}
+use Rattle.pl_base.specs.declared.place.Place.{Place}
+use Rattle.pl_base.specs.declared.place.Place.TheVariants.{Block, Node}
+use Rattle.pl_digest.specs.Nodes.{with_entry}
+use Rattle.pl_digest.specs.Trees.{piece, zone_root}
+use Rattle.mem_geom.specs.Layout.{memory_size, place_bytes}
+use Rattle.mem_geom.specs.PathPlaces.{word_places}
+use Rattle.mem_geom.proofs.Parts.{bytes_at-bytes_at}
+use Rattle.mem_slots.specs.Slots.{is_mounted, rooted_slot}
+use Rattle.mem_tree.specs.declared.new_path.NewPath.{NewPath}
+use Rattle.mem_tree.specs.Changes.{IsOfZone, PlaceBytes, above_block, at_place, renewed, renewed_root}
+use Rattle.mem_tree.specs.Checks.{Checked, Tells, check, Holds as AllHold}
+use Rattle.mem_tree.specs.Paths.{path_of}
+use Rattle.mem_tree.specs.Trees.{nth, zone_bytes}
+use Rattle.mem_tree.specs.Words.{part_bytes, parts_path, word_path}
+use Rattle.mem_tree.proofs.Differences.{checks_tell}
+use Rattle.mem_tree.proofs.WordPaths.{parts_answer_alike}
+use Rattle.mem_ctl.specs.Calls.{slot_root, with_part, with_root, zone_check}
+use Rattle.mem_ctl.specs.Data.{CtlData}
+use Rattle.mem_ctl.specs.Mounting.{put, taken, written}
+use Rattle.mem_ctl.specs.TreesHold.{TreesHold}
+use Rattle.mem_ctl.specs.Words.{IsNewPath, path_written, stored}
+use Rattle.mem_ctl.specs.Writes.{with_places, word_at, zone_pages}
+use Rattle.mem_ctl.proofs.RenewedLemmas.{renewed-alike, renewed_root-alike}
+use Rattle.mem_ctl.proofs.SlotLemmas.{root_found}
+use Rattle.mem_ctl.proofs.WordWrites.{new_pages, word_fit, word_root, word_update, word_written}
+use Rattle.mem_ctl.proofs.WriteLemmas.{AllFit, length-with_places}
+use Rattle.mem_ctl.proofs.ZoneLemmas.{mirror_is, word_path-written}
+use Rattle.mem_ctl.proofs.ZoneUpdates.{updated-hold}
+
+-- a word is a part of its block
+pub word_of_block : (zones : ℕ) (memory : List ℕ) (page offset : ℕ) → offset % 8 ≡ 0
+    → little_number 8 (bytes_at (place_bytes zones memory (Block page (offset / 64))) (offset % 64) 8) ≡ word_at memory page offset
+word_of_block zones memory page offset aligned =
+    let at : ℕ = 0x80000000 + 4096 * page + 64 * (offset / 64) - 0x80000000 in
+    let sum : at + offset % 64 ≡ 4096 * page + offset = omega arith in
+    ap (little_number 8) (bytes_at-bytes_at memory at 64 (offset % 64) 8 (omega arith) ∙ ap (λ (k : ℕ). bytes_at memory k 8) sum)
+
+module _ (d : List ℕ → List ℕ) where
+  -- the check of the parts that were taken is that of the path
+  pub word_check : (x : CtlData) (page b : ℕ) (parts : NewPath) → b < 64 → parts ≡ word_path (slot_root x (page / 64)) (taken x) page b
+      → check d (parts_path page b parts) (written x) ≡ zone_check d x (page / 64) (word_places page b)
+  word_check x page b parts below is =
+      ap (λ (q : NewPath). check d (parts_path page b q) (written x)) is ∙ (parts_answer_alike d (slot_root x (page / 64)) (taken x) page b below).checks (written x)
+
+  -- what a write renews, as the code computes it from the parts
+  pub stored-parts : (x : CtlData) (page b at : ℕ) (part : List ℕ) (parts path : NewPath) → b < 64 → IsNewPath d parts page b at part path → with_part d (part_bytes parts) page b at part x ≡ stored x page b path
+  unfolding with_part
+  stored-parts x page b at part parts path below is =
+      let z : ℕ = page / 64 in
+      let p : ℕ = page % 64 in
+      let i : ℕ = 8 * p + b / 8 in
+      let nb : List ℕ = with_bytes parts.block at part in
+      let l1 : List ℕ = with_entry (b % 8) (d nb) parts.level1 in
+      let l2 : List ℕ = with_entry (i % 8) (d l1) parts.level2 in
+      let l3 : List ℕ = with_entry (p % 8) (d l2) parts.level3 in
+      let l4 : List ℕ = with_entry (p / 8 % 8) (d l3) parts.level4 in
+      let e2 : i % 8 ≡ b / 8 = omega arith in
+      let e3 : p % 8 ≡ page % 8 = omega arith in
+      let e4 : p / 8 % 8 ≡ p / 8 = omega arith in
+      let s0 : nb ≡ path.block = sym is.block in
+      let s1 : l1 ≡ path.level1 = ap (λ (q : List ℕ). with_entry (b % 8) (d q) parts.level1) s0 ∙ sym is.level1 in
+      let s2 : l2 ≡ path.level2 = ap (λ (k : ℕ). with_entry k (d l1) parts.level2) e2 ∙ ap (λ (q : List ℕ). with_entry (b / 8) (d q) parts.level2) s1 ∙ sym is.level2 in
+      let s3 : l3 ≡ path.level3 = ap (λ (k : ℕ). with_entry k (d l2) parts.level3) e3 ∙ ap (λ (q : List ℕ). with_entry (page % 8) (d q) parts.level3) s2 ∙ sym is.level3 in
+      let s4 : l4 ≡ path.level4 = ap (λ (k : ℕ). with_entry k (d l3) parts.level4) e4 ∙ ap (λ (q : List ℕ). with_entry (p / 8) (d q) parts.level4) s3 ∙ sym is.level4 in
+      let s5 : d l4 ≡ path.root = ap d s4 ∙ sym is.root in
+      let f = λ (a : List ℕ) (a1 : List ℕ) (a2 : List ℕ) (a3 : List ℕ) (a4 : List ℕ) (r : List ℕ).
+      with_root (put x (at_place (Block page b) a ∷ at_place (Node 1 z i) a1 ∷ at_place (Node 2 z p) a2 ∷ at_place (Node 3 z (p / 8)) a3 ∷ at_place (Node 4 z 0) a4 ∷ [])) z r in
+      ap (λ (q : List ℕ). f q l1 l2 l3 l4 (d l4)) s0 ∙ ap (λ (q : List ℕ). f path.block q l2 l3 l4 (d l4)) s1 ∙ ap (λ (q : List ℕ). f path.block path.level1 q l3 l4 (d l4)) s2
+      ∙ ap (λ (q : List ℕ). f path.block path.level1 path.level2 q l4 (d l4)) s3 ∙ ap (λ (q : List ℕ). f path.block path.level1 path.level2 path.level3 q (d l4)) s4
+      ∙ ap (f path.block path.level1 path.level2 path.level3 path.level4) s5
+
+  -- the parts of the path that is taken from memory stand for the memory's bytes
+  pub with_part-parts : (x : CtlData) (old : Place → List ℕ) (root : List ℕ) (page b at : ℕ) (part : List ℕ) → with_part d old page b at part x ≡ with_part d (part_bytes (word_path root old page b)) page b at part x
+  unfolding with_part
+  with_part-parts x old root page b at part = refl
+
+module _ (d : List ℕ → List ℕ) (law : (m : List ℕ) → length (d m) ≡ 32) (x : CtlData) (trees : TreesHold d x) (page b : ℕ) (there : page < 64 * x.zones) (below : b < 64) (mounted : is_mounted x.mounted (page / 64) ≡ true) where
+  slot_root_is : slot_root x (page / 64) ≡ zone_root d (zone_pages x.mirror (page / 64))
+  slot_root_is = root_found (λ (z : ℕ). zone_root d (zone_pages x.mirror z)) x.mounted (page / 64) trees.slots_hold mounted
+
+  -- what the check of a word's path tells
+  pub word_tells : (c : Checked) → zone_check d x (page / 64) (word_places page b) ≡ c → Tells d (path_of (slot_root x (page / 64)) (word_places page b) (taken x)) (written x) c
+  word_tells c is =
+      subst (Tells d (path_of (slot_root x (page / 64)) (word_places page b) (taken x)) (written x)) is
+      (checks_tell d (path_of (slot_root x (page / 64)) (word_places page b) (taken x)) (written x)
+      (word_path-written d law x.zones x.mirror trees.sizes.mirror_size trees.nodes page there (slot_root x (page / 64)) slot_root_is x.off_chip b below))
+
+  -- a part is written over bytes that are as they were written
+  module _ (old : Place → List ℕ) (same : All (λ (p : Place). old p ≡ written x p) (word_places page b)) (at : ℕ) (part : List ℕ) (inside : at + length part ≤ 64) where
+    abbrev pages : List (List ℕ)
+    pages = zone_pages x.mirror (page / 64)
+
+    in_tree : (place : Place) → IsOfZone (page / 64) place → place_bytes x.zones x.mirror place ≡ zone_bytes d pages place
+    in_tree place of = mirror_is d law x.zones x.mirror trees.sizes.mirror_size trees.nodes (page / 64) (omega arith) place of
+
+    above_same : All (λ (p : Place). old p ≡ zone_bytes d pages p) (above_block page b)
+    above_same =
+        let z : ℕ = page / 64 in
+        let p : ℕ = page % 64 in
+        let P = λ (q : Place). old q ≡ zone_bytes d pages q in
+        let n1 : Place = Node 1 z (8 * p + b / 8) in
+        let n2 : Place = Node 2 z p in
+        let n3 : Place = Node 3 z (p / 8) in
+        let n4 : Place = Node 4 z 0 in
+        All-cons P n1 (n2 ∷ n3 ∷ n4 ∷ []) (same 3 n1 (omega arith) ∙ in_tree n1 (refl, omega arith)) (All-cons P n2 (n3 ∷ n4 ∷ []) (same 2 n2 (omega arith) ∙ in_tree n2 (refl, omega arith))
+        (All-cons P n3 (n4 ∷ []) (same 1 n3 (omega arith) ∙ in_tree n3 (refl, omega arith)) (All-cons P n4 [] (same 0 n4 (omega arith) ∙ in_tree n4 (refl, omega arith)) (All-nil P))))
+
+    block_same : with_bytes (old (Block page b)) at part ≡ with_bytes (piece 64 b (nth pages (page % 64))) at part
+    block_same = ap (λ (xs : List ℕ). with_bytes xs at part) (same 4 (Block page b) (omega arith) ∙ in_tree (Block page b) (refl, below))
+
+    abbrev wrote : List PlaceBytes
+    wrote = word_written d law x.zones x.mirror trees.sizes.mirror_size trees.nodes page b at part there below inside
+
+    wrote_is : renewed d old (Block page b) (with_bytes (old (Block page b)) at part) (above_block page b) ≡ wrote
+    wrote_is =
+        renewed-alike d old (zone_bytes d pages) (Block page b) (with_bytes (old (Block page b)) at part) (above_block page b) above_same
+        ∙ ap (λ (xs : List ℕ). renewed d (zone_bytes d pages) (Block page b) xs (above_block page b)) block_same
+
+    root_is : renewed_root d old (Block page b) (with_bytes (old (Block page b)) at part) (above_block page b)
+        ≡ zone_root d (new_pages d law x.zones x.mirror trees.sizes.mirror_size trees.nodes page b at part there below inside)
+    root_is =
+        renewed_root-alike d old (zone_bytes d pages) (Block page b) (with_bytes (old (Block page b)) at part) (above_block page b) above_same
+        ∙ ap (λ (xs : List ℕ). renewed_root d (zone_bytes d pages) (Block page b) xs (above_block page b)) block_same
+        ∙ word_root d law x.zones x.mirror trees.sizes.mirror_size trees.nodes page b at part there below inside
+
+    fit : AllFit x.zones wrote
+    fit = word_fit d law x.zones x.mirror trees.sizes.mirror_size trees.nodes page b at part there below inside
+
+    pub with_part-hold : TreesHold d (with_part d old page b at part x)
+    unfolding with_part
+    with_part-hold =
+        let root : List ℕ = renewed_root d old (Block page b) (with_bytes (old (Block page b)) at part) (above_block page b) in
+        subst (λ (ws : List PlaceBytes). TreesHold d (with_root (put x ws) (page / 64) root)) (sym wrote_is)
+        (updated-hold d x trees (page / 64) (omega arith) mounted
+        (new_pages d law x.zones x.mirror trees.sizes.mirror_size trees.nodes page b at part there below inside)
+        (with_places x.zones x.off_chip wrote) (with_places x.zones x.mirror wrote) root
+        (length-with_places x.zones wrote x.off_chip fit trees.sizes.off_chip_size)
+        (word_update d law x.zones x.mirror trees.sizes.mirror_size trees.nodes page b at part there below inside) root_is)

@@ -1,0 +1,36 @@
+-- What the first half of a word's access answers: the path that holds, or why it is refused.
+use Rattle.std.specs.Prelude.{ℕ, ◌≡◌, ◌/◌, ◌⊎◌, true, List, None, Err}
+use Rattle.mem_geom.specs.PathPlaces.{word_places}
+use Rattle.mem_slots.specs.declared.slot_use.SlotUse.{SlotUse}
+use Rattle.mem_slots.specs.Slots.{is_mounted}
+use Rattle.mem_tree.specs.declared.taken.Taken.{Taken}
+use Rattle.mem_tree.specs.Checks.{Holds as AllHold}
+use Rattle.mem_tree.specs.Paths.{first_break}
+use Rattle.mem_tree.specs.Words.{parts_of, taken_path, word_path}
+use Rattle.mem_ctl.specs.declared.broken.Broken.{Broken}
+use Rattle.mem_ctl.specs.Calls.{slot_root, zone_check}
+use Rattle.mem_ctl.specs.Data.{CtlData, Value}
+use Rattle.mem_ctl.specs.Mounting.{mounted_for, taken, used}
+use Rattle.mem_ctl.specs.Results.{IsCall, checked_of, outcome_of}
+
+-- the zone was mounted, a use was counted, and the path that was taken then holds
+pub record IsOpened {D : Type 0} (gives : List SlotUse → ℕ → Type 0) (digest_of : List ℕ → List ℕ) (page block : ℕ) (old : CtlData) (sealed : Taken D) (new : CtlData) : Type 0 where
+  pub between : CtlData
+  pub mounts : IsCall gives (mounted_for digest_of (page / 64)) old (Value tt) between
+  pub now : new ≡ used between (page / 64)
+  pub own_page : sealed.page ≡ page
+  pub own_block : sealed.block_no ≡ block
+  pub parts : parts_of sealed ≡ word_path (slot_root new (page / 64)) (taken new) page block
+  pub mounted : is_mounted new.mounted (page / 64) ≡ true
+  pub holds : AllHold ≡ zone_check digest_of new (page / 64) (word_places page block)
+
+-- the mounting was refused, or the path after it
+pub record IsRefusedThen (gives : List SlotUse → ℕ → Type 0) (digest_of : List ℕ → List ℕ) (page block : ℕ) (old : CtlData) (broken : Broken) (new : CtlData) : Type 0 where
+  pub between : CtlData
+  pub mounts : IsCall gives (mounted_for digest_of (page / 64)) old (Value tt) between
+  pub now : new ≡ used between (page / 64)
+  pub is : checked_of (Err broken) ≡ zone_check digest_of new (page / 64) (word_places page block)
+
+abbrev pub IsRefused : (List SlotUse → ℕ → Type 0) → (List ℕ → List ℕ) → ℕ → ℕ → CtlData → Broken → CtlData → Type 0
+IsRefused gives digest_of page block old broken new =
+    IsCall gives (mounted_for digest_of (page / 64)) old (outcome_of {A = Unit {0}} (Err broken)) new ⊎ IsRefusedThen gives digest_of page block old broken new

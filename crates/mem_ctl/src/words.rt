@@ -1,0 +1,113 @@
+// Words through the trees.
+ghost use Rattle.std.specs.Prelude.{◌≡◌, ◌≤◌, ◌<◌, ◌*◌, ◌/◌, ◌%◌, ◌+◌, true, length, IfOk, IfErr, IsTrue};
+ghost use Rattle.std.specs.Fn.{FnReturnsAt};
+ghost use Rattle.byteorder.specs.Endian.{little_number};
+ghost use Rattle.pl_base.specs.Bytes.{bytes_at};
+ghost use Rattle.pl_base.specs.Width.{is_width};
+ghost use Rattle.mem_geom.specs.Layout.{memory_size};
+ghost use Rattle.mem_slots.specs.Choices.{NamesPosition};
+ghost use Rattle.mem_slots.specs.Slots.{is_mounted};
+ghost use Rattle.mem_tree.specs.Words.{parts_of, word_path};
+ghost use Rattle.mem_ctl.specs.Calls.{read_word_of, slot_root, write_part_of};
+ghost use Rattle.mem_ctl.specs.Mounting.{taken};
+ghost use Rattle.mem_ctl.specs.Opened.{IsOpened, IsRefused};
+ghost use Rattle.mem_ctl.specs.Results.{IsCall, outcome_of};
+ghost use Rattle.mem_ctl.specs.TreesHold.{IsKept};
+ghost use Rattle.mem_ctl.specs.Words.{path_written, stored};
+ghost use Rattle.mem_ctl.specs.Writes.{with_places, word_at};
+
+use crate::broken::Broken;
+use crate::check::{read_place, write_place};
+use crate::ctl::Ctl;
+use crate::sealed::{check_sealed, word_places};
+use byteorder::{ByteOrder, LittleEndian};
+use mem_geom::Dram;
+use mem_slots::SlotUse;
+use mem_tree::{NewPath, Sealed, Taken};
+use pl_base::Place;
+use pl_digest::Digester;
+
+impl<D: Digester, F: Fn(&[SlotUse]) -> usize> Ctl<D, F> {
+    /// The eight bytes of a page at an offset, a multiple of 8, read through the trees. This computes five digests where
+    /// the zone is mounted.
+    pub fn read_word(&mut self, page: u32, offset: u16) -> Result<u64, Broken>
+        requires page { page < 64 * self.old.0.zones }
+        requires offset { offset < 4096 }
+        requires aligned { offset % 8 ≡ 0 }
+        requires choice { NamesPosition F.Fn self.old.1 }
+
+        // What it answers and leaves is its function of the data; so a word that it gives is the mirror's.
+        ensures call { IsCall (FnReturnsAt F.Fn self.old.1) (read_word_of D.digest_of page offset) self.old.0 (outcome_of result) self.new.0 }
+        ensures word { IfOk result (λ word. word ≡ word_at self.old.0.mirror page offset) }
+        ensures choice { self.new.1 ≡ self.old.1 }
+    {
+        let _zones = self.zones;
+        match self.open_word(page, (offset / 64) as u8) {
+            Ok(sealed) => Ok(word_in(&sealed.taken().block, offset % 64)),
+            Err(broken) => Err(broken),
+        }
+    }
+
+    /// Mounts the zone of a page, counts a use, and takes, seals and checks the path of one of its blocks.
+    fn open_word(&mut self, page: u32, block: u8) -> Result<Sealed<D>, Broken>
+        requires page { page < 64 * self.old.0.zones }
+        requires block { block < 64 }
+        requires choice { NamesPosition F.Fn self.old.1 }
+        ensures ok { IfOk result (λ sealed. IsOpened (FnReturnsAt F.Fn self.old.1) D.digest_of page block self.old.0 sealed self.new.0) }
+        ensures err { IfErr result (λ broken. IsRefused (FnReturnsAt F.Fn self.old.1) D.digest_of page block self.old.0 broken self.new.0) }
+        ensures zones { self.new.0.zones ≡ self.old.0.zones }
+        ensures choice { self.new.1 ≡ self.old.1 }
+    {
+        let _zones = self.zones;
+        if let Err(broken) = self.mount((page / 64) as u8) {
+            return Err(broken);
+        }
+        self.slots.used((page / 64) as u8);
+        let sealed = self.take_word(page, block).seal();
+        if let Err(broken) = check_sealed(self.zones, &self.mirror, &sealed) {
+            return Err(broken);
+        }
+        Ok(sealed)
+    }
+}
+
+impl<D: Digester, F> Ctl<D, F> {
+    /// The path of a block of a mounted zone, as it stands off chip.
+    fn take_word(&self, page: u32, block: u8) -> Taken<D>
+        requires page { page < 64 * self.now.0.zones }
+        requires block { block < 64 }
+        requires mounted { is_mounted self.now.0.mounted (page / 64) ≡ true }
+        ensures page { result.page ≡ page }
+        ensures block { result.block_no ≡ block }
+        ensures parts { parts_of result ≡ word_path (slot_root self.now.0 (page / 64)) (taken self.now.0) page block }
+    {
+        let root = self.slots.find((page / 64) as u8).unwrap_or([0; 32]);
+        let places = word_places(page, block);
+        let mut taken = Taken {
+            digester: self.digester,
+            page,
+            block_no: block,
+            block: [0; 64],
+            level1: [0; 256],
+            level2: [0; 256],
+            level3: [0; 256],
+            level4: [0; 256],
+            root,
+        };
+        read_place(&self.off_chip, self.zones, &places[0], &mut taken.level4);
+        read_place(&self.off_chip, self.zones, &places[1], &mut taken.level3);
+        read_place(&self.off_chip, self.zones, &places[2], &mut taken.level2);
+        read_place(&self.off_chip, self.zones, &places[3], &mut taken.level1);
+        read_place(&self.off_chip, self.zones, &places[4], &mut taken.block);
+        taken
+    }
+}
+
+/// The eight bytes of a block at an offset, as a number.
+fn word_in(block: &[u8; 64], at: u16) -> u64
+    requires { at + 8 ≤ 64 }
+    ensures { result ≡ little_number 8 (bytes_at block.now at 8) }
+{
+    let at = usize::from(at);
+    LittleEndian::read_u64(&block[at..at + 8])
+}
