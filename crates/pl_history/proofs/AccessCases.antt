@@ -6,7 +6,7 @@ use Rattle.pl_base.specs.declared.place.Place.TheVariants.{Block, RootNode}
 use Rattle.pl_base.specs.declared.refusal.No.TheVariants as no_is
 use Rattle.pl_history.specs.declared.answer.Answer.TheVariants as answer_is
 use Rattle.pl_history.specs.declared.line.Line.TheVariants.{Load}
-use Rattle.pl_history.specs.HostAccess.{address_refusal, load_by, store_by, AllowedLoad, AllowedStore, stored}
+use Rattle.pl_history.specs.HostAccess.{address_refusal, load_by, store_by, AllowedLoad, AllowedStore, host_stored}
 use Rattle.pl_history.specs.HostMaps.{map_refusal, unmap_refusal, AllowedMap, AllowedUnmap, mapped, removing, removed}
 use Rattle.pl_history.specs.Licence.{Licensed}
 use Rattle.pl_history.specs.Monitor.{Monitor}
@@ -41,7 +41,7 @@ by_none = refl
 never_begun : AllowedLoad quiet state (va 0x1008) true (answer_is.Value 7) → ⊥
 never_begun allowed = allowed
 
-store_changes : map (λ page. (stored state (va 0x1008) (2 ^ 56)).bytes page) (20 ∷ 21 ∷ [])
+store_changes : map (λ page. (host_stored state (va 0x1008) (2 ^ 56)).bytes page) (20 ∷ 21 ∷ [])
     ≡ ((20 ∷ 0 ∷ 0 ∷ 0 ∷ 0 ∷ 0 ∷ 0 ∷ 0 ∷ 0 ∷ 0 ∷ 0 ∷ 0 ∷ 0 ∷ 0 ∷ 0 ∷ 1 ∷ []) ∷ state.bytes 21 ∷ [])
 store_changes = refl
 

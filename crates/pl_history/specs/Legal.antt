@@ -13,7 +13,7 @@ use Rattle.pl_history.specs.Answering.{Changes, unchanged, change_by, progressed
 use Rattle.pl_history.specs.Attacking.{latest_kept, AllowedWrote, AllowedKept, written}
 use Rattle.pl_history.specs.GivingBack.{AllowedDestroy, AllowedDrop, dying, given_back}
 use Rattle.pl_history.specs.History.{named_part}
-use Rattle.pl_history.specs.HostAccess.{AllowedLoad, AllowedStore, stored}
+use Rattle.pl_history.specs.HostAccess.{AllowedLoad, AllowedStore, host_stored}
 use Rattle.pl_history.specs.HostMaps.{AllowedMap, AllowedUnmap, mapped, removing, removed}
 use Rattle.pl_history.specs.Making.{AllowedCreate, AllowedFork, AllowedGrant, building, forking, made, sealed, made_faulted, granted}
 use Rattle.pl_history.specs.Monitor.{Monitor, opening, script_of, line_count}
@@ -75,7 +75,7 @@ Allowed setup bytes s before entry =
 -- What the answers to a hart's line change. A refusal changes nothing, but that one after Begun stops the making of a number.
 abbrev pub changes : Monitor → ℕ → Line → Bool → Changes
 changes s hart (Load va) begun = unchanged s
-changes s hart (Store va word) begun = record (unchanged s) { ok = stored s va word }
+changes s hart (Store va word) begun = record (unchanged s) { ok = host_stored s va word }
 changes s hart (Map va page perms) begun = record (unchanged s) { ok = mapped s va page perms }
 changes s hart (Unmap va) begun = record (unchanged s) { begun = removing s hart va; ok = removed s hart }
 changes s hart (Create e image pages) begun =
