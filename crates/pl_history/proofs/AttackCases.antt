@@ -6,7 +6,7 @@ use Rattle.pl_history.specs.declared.answer.Entry.{Entry}
 use Rattle.pl_history.specs.declared.line.AttackLine.{AttackLine}
 use Rattle.pl_history.specs.declared.line.AttackLine.TheVariants as attack
 use Rattle.pl_history.specs.declared.setup.SetupParts.{SetupParts}
-use Rattle.pl_history.specs.Attacking.{Placed, may_say_changed, attacked_page, latest_kept, written}
+use Rattle.pl_history.specs.Attacking.{Placed, may_say_changed, overwritten_page, latest_kept, written}
 use Rattle.pl_history.specs.Legal.{AllowedAttack}
 use Rattle.pl_history.specs.Waiting.{AllowedAfter}
 use Rattle.pl_history.proofs.CaseStates.{small, state}
@@ -30,8 +30,8 @@ elsewhere = refl
 -- ---- what a write changes
 
 -- up to the end of a page, and from its beginning
-across : (attacked_page 20 (1 ∷ 2 ∷ 3 ∷ []) (bytes_at_page 20 1 (8 ∷ 9 ∷ [])) ∷ attacked_page 20 (1 ∷ 2 ∷ 3 ∷ []) (bytes_at_page 19 4095 (8 ∷ 9 ∷ [])) ∷ attacked_page 20 (1 ∷ 2 ∷ 3 ∷ []) (bytes_at_page 19 0 (8 ∷ 9 ∷ []))
-    ∷ attacked_page 20 (1 ∷ 2 ∷ 3 ∷ []) (bytes_at_page 21 0 (8 ∷ 9 ∷ [])) ∷ [])
+across : (overwritten_page 20 (1 ∷ 2 ∷ 3 ∷ []) (bytes_at_page 20 1 (8 ∷ 9 ∷ [])) ∷ overwritten_page 20 (1 ∷ 2 ∷ 3 ∷ []) (bytes_at_page 19 4095 (8 ∷ 9 ∷ [])) ∷ overwritten_page 20 (1 ∷ 2 ∷ 3 ∷ []) (bytes_at_page 19 0 (8 ∷ 9 ∷ []))
+    ∷ overwritten_page 20 (1 ∷ 2 ∷ 3 ∷ []) (bytes_at_page 21 0 (8 ∷ 9 ∷ [])) ∷ [])
     ≡ ((1 ∷ 8 ∷ 9 ∷ []) ∷ (9 ∷ 2 ∷ 3 ∷ []) ∷ (1 ∷ 2 ∷ 3 ∷ []) ∷ (1 ∷ 2 ∷ 3 ∷ []) ∷ [])
 across = refl
 

@@ -42,11 +42,12 @@ answer_or None gives = gives
 answer_or (Some cause) gives = answer_is.No cause
 
 -- the eight bytes at an address of the host, little-endian
-abbrev pub word_at : Monitor → Va → Mapping → ℕ
-word_at s va m = little_number 8 (bytes_at (s.bytes m.page) (va.0 % 4096) 8)
+abbrev pub host_word : Monitor → Va → Mapping → ℕ
+host_word s va m = little_number 8 (bytes_at (s.bytes m.page) (va.0 % 4096) 8)
 
+-- what a load by a mapping is answered, and a store
 abbrev pub load_by : SetupParts → Monitor → Va → Mapping → Answer
-load_by setup s va m = answer_or (mapping_refusal setup kind.Load va m) (answer_is.Value (word_at s va m))
+load_by setup s va m = answer_or (mapping_refusal setup kind.Load va m) (answer_is.Value (host_word s va m))
 
 abbrev pub store_by : SetupParts → Va → Mapping → Answer
 store_by setup va m = answer_or (mapping_refusal setup kind.Store va m) answer_is.Ok
@@ -58,6 +59,7 @@ AnswersBy by (Some m) removed now = now ≡ by m
 AnswersBy by None (Some m) now = (now ≡ by m) ⊎ (now ≡ answer_is.No PageFault)
 AnswersBy by None None now = now ≡ answer_is.No PageFault
 
+-- an access is refused by its address, or answered by a mapping
 abbrev pub HostAccess : Option No → (Mapping → Answer) → Monitor → Va → Bool → Answer → Type 0
 HostAccess refusal by s va true now = ⊥
 HostAccess (Some cause) by s va false now = now ≡ answer_is.No cause

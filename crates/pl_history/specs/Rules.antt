@@ -5,6 +5,7 @@ use Rattle.std.specs.Option.{option_map_or}
 use Rattle.std.specs.Str.{bytes_eq}
 use Rattle.pl_base.specs.Perms.{are_page_perms}
 use Rattle.pl_base.specs.declared.actor.Actor.{Actor}
+use Rattle.pl_base.specs.declared.page.TheConstants.{IMAGE_START}
 use Rattle.pl_base.specs.declared.actor.Actor.TheVariants.{Hart, Ack, Attacker}
 use Rattle.mon_image.specs.declared.page.ImagePage.{ImagePage}
 use Rattle.mon_image.specs.declared.image.Image.{Image}
@@ -50,9 +51,9 @@ is_actor harts Attacker = true
 abbrev pub is_page : ImagePage → Bool
 is_page page = are_page_perms page.perms && length page.bytes == 4096
 
--- an entry is a multiple of 4 in the image, whose page i stands at 0x10000 + 4096·i
+-- an entry is a multiple of 4 in the image, whose page i stands at IMAGE_START + 4096·i
 abbrev pub is_entry : ℕ → ℕ → Bool
-is_entry pages entry = entry % 4 == 0 && (nat_le 0x10000 entry && nat_lt entry (0x10000 + 4096 * pages))
+is_entry pages entry = entry % 4 == 0 && (nat_le IMAGE_START entry && nat_lt entry (IMAGE_START + 4096 * pages))
 
 abbrev pub is_image : Image → Bool
 is_image image = is_entry (length image.pages) image.entry && (is_within 1 256 (length image.pages) && list_all is_page image.pages)

@@ -7,6 +7,7 @@ use Rattle.pl_base.specs.declared.perms.Perms.{Perms}
 use Rattle.pl_io.specs.Numbers.{hex_value}
 use Rattle.mon_image.specs.declared.page.ImagePage.{ImagePage}
 use Rattle.mon_image.specs.declared.image.Image.{Image}
+use Rattle.pl_base.specs.declared.page.TheConstants.{IMAGE_START}
 use Rattle.pl_history.specs.Rules.{is_within, is_entry}
 use Rattle.world_setup.specs.Checked.{Checked, ◌>>=◌, unless, none_at}
 use Rattle.world_setup.specs.TomlData.{list_of, members_in, text_at, is_table}
@@ -24,10 +25,10 @@ is_image_array (Some _) = false
 abbrev pub entry_at : Data → Option ℕ
 entry_at image = option_and_then hex_value (text_at (codes "entry") (members_in image))
 
--- a multiple of 4 in the image; where it has no array of pages, one from 0x10000 on
+-- a multiple of 4 in the image; where it has no array of pages, one from IMAGE_START on
 abbrev pub enters : Option Data → ℕ → Bool
 enters (Some (array ds)) entry = is_entry (length (list_of ds)) entry
-enters _ entry = entry % 4 == 0 && nat_le 0x10000 entry
+enters _ entry = entry % 4 == 0 && nat_le IMAGE_START entry
 
 abbrev pub has_entry : Data → Bool
 has_entry image = option_map_or (enters (pages_at image)) (entry_at image) false
