@@ -1,5 +1,6 @@
 pub mod AccessCalls
 pub mod AccessLemmas
+pub mod AskLemmas
 pub mod CallLemmas
 pub mod MountLemmas
 pub mod PageLemmas

@@ -29,10 +29,10 @@ returns-in-Ok-clause-call g c =
     let gives : List SlotUse → ℕ → Type 0 = FnReturnsAt g.F.Fn c.args.self.now.1 in
     let h = c.in-Ok.ensures.ok in
     let call = access_gives gives d page (word_places page (offset / 64)) (λ (x : CtlData). word_at x.off_chip page offset) (λ (x : CtlData). x) old h.between h.mounts
-        (h.holds ∙ ap (λ (w : CtlData). zone_check d w (page / 64) (word_places page (offset / 64))) h.now) in
+    (h.holds ∙ ap (λ (w : CtlData). zone_check d w (page / 64) (word_places page (offset / 64))) h.now) in
     let word : c.word_in.result ≡ word_at new.off_chip page offset =
-        c.word_in.ensures ∙ ap (λ t. little_number 8 (bytes_at t.block (offset % 64) 8)) c.taken.ensures.taken ∙ ap (λ (q : NewPath). little_number 8 (bytes_at q.block (offset % 64) 8)) h.parts
-        ∙ word_of_block new.zones new.off_chip page offset c.requires.aligned in
+    c.word_in.ensures ∙ ap (λ t. little_number 8 (bytes_at t.block (offset % 64) 8)) c.taken.ensures.taken ∙ ap (λ (q : NewPath). little_number 8 (bytes_at q.block (offset % 64) 8)) h.parts
+    ∙ word_of_block new.zones new.off_chip page offset c.requires.aligned in
     let on = λ (w : ℕ) (x : CtlData). IsCall gives (accessed d page (word_places page (offset / 64)) (λ (y : CtlData). word_at y.off_chip page offset) (λ (y : CtlData). y)) old (Value w) x in
     subst (λ (w : ℕ). on w new) (sym word) (subst (λ (x : CtlData). on (word_at x.off_chip page offset) x) (sym h.now) call)
 

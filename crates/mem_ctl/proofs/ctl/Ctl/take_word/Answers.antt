@@ -20,7 +20,7 @@ returns-clause-parts g c =
     let zone : ℕ = c.args.page / 64 in
     let mounted : is_mounted i.slots.mounted zone ≡ true = ap (λ v. is_mounted v.0.mounted zone) c.self.view_is ∙ c.requires.mounted in
     let root : c.unwrap_or-root.result ≡ unwrap_or (root_of i.slots.mounted zone) [] =
-        c.unwrap_or-root.ensures ∙ ap (λ (o : Option (List ℕ)). unwrap_or o _) c.find.ensures ∙ root_there (root_of i.slots.mounted zone) _ [] (is_some-root_of i.slots.mounted zone ∙ mounted) in
+    c.unwrap_or-root.ensures ∙ ap (λ (o : Option (List ℕ)). unwrap_or o _) c.find.ensures ∙ root_there (root_of i.slots.mounted zone) _ [] (is_some-root_of i.slots.mounted zone ∙ mounted) in
     let places = c.word_places-places.ensures in
     let at = λ (k : ℕ) (ps : List Place). place_bytes i.zones i.off_chip (get_or ps k (Block 0 0)) in
     let level4 : c.read_place.new.into ≡ place_bytes i.zones i.off_chip (Node 4 zone 0) = c.read_place.ensures ∙ ap (at 0) places in
@@ -30,6 +30,11 @@ returns-clause-parts g c =
     let block : c.read_place-5.new.into ≡ place_bytes i.zones i.off_chip (Block page c.args.block) = c.read_place-5.ensures ∙ ap (at 4) places in
     let there : NewPath = word_path (unwrap_or (root_of i.slots.mounted zone) []) (place_bytes i.zones i.off_chip) page c.args.block in
     same_paths (record {
-      block = c.read_place-5.new.into; level1 = c.read_place-4.new.into; level2 = c.read_place-3.new.into; level3 = c.read_place-2.new.into; level4 = c.read_place.new.into; root = c.unwrap_or-root.result;
+      block = c.read_place-5.new.into;
+      level1 = c.read_place-4.new.into;
+      level2 = c.read_place-3.new.into;
+      level3 = c.read_place-2.new.into;
+      level4 = c.read_place.new.into;
+      root = c.unwrap_or-root.result;
     }) there block level1 level2 level3 level4 root
     ∙ ap (λ v. word_path (slot_root v.0 zone) (taken v.0) page c.args.block) c.self.view_is
