@@ -1,13 +1,13 @@
 -- A path that is asked for.
-use Rattle.std.proofs.Common.{◌≡◌, ℕ, ◌/◌, List, refl, ap, ◌∙◌, sym, subst}
+use Rattle.std.proofs.Common.{◌≡◌, ℕ, ◌/◌, List, refl, ap, ◌∙◌, sym}
 use Rattle.std.specs.Prelude.{Err}
 use Rattle.mem_slots.specs.declared.slot_use.SlotUse.{SlotUse}
 use Rattle.mem_tree.specs.declared.taken.Taken.{Taken}
 use Rattle.mem_tree.specs.Words.{parts_of, word_path}
 use Rattle.mem_ctl.specs.declared.broken.Broken.{Broken}
 use Rattle.mem_ctl.specs.declared.broken.Broken.TheVariants as broken
-use Rattle.mem_ctl.specs.Calls.{TakenWord, ask_of, slot_root, word_taken}
-use Rattle.mem_ctl.specs.Data.{CtlData, Going, Value, answer}
+use Rattle.mem_ctl.specs.Calls.{ask_of, slot_root, word_taken}
+use Rattle.mem_ctl.specs.Data.{CtlData, Value}
 use Rattle.mem_ctl.specs.Mounting.{mounted_for, taken}
 use Rattle.mem_ctl.specs.Opened.{asked_outcome, word_of_taken}
 use Rattle.mem_ctl.specs.Results.{IsCall, outcome_of}

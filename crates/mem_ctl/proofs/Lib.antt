@@ -9,6 +9,7 @@ pub mod ReadLemmas
 pub mod RenewedLemmas
 pub mod RootLemmas
 pub mod SlotLemmas
+pub mod TellLemmas
 pub mod WordCalls
 pub mod WordWrites
 pub mod WriteLemmas

@@ -5,8 +5,8 @@ use Rattle.mem_ctl.specs.Calls.{with_part}
 use Rattle.mem_ctl.specs.Opened.{IsOpened}
 use Rattle.mem_ctl.specs.Words.{IsNewPath, stored}
 use Rattle.mem_ctl.proofs.WordCalls.{none_breaks, stored-parts, with_part-hold, with_part-parts}
-use Rattle.std.proofs.Common.{◌≡◌, ℕ, ◌+◌, ◌-◌, ◌*◌, ◌/◌, ◌%◌, ◌<◌, ◌≤◌, Option, Some, None, is_some, List, [], length, refl, subst, sym, ap, ◌∙◌, arith}
-use Rattle.std.specs.Prelude.{true, false}
+use Rattle.std.proofs.Common.{◌≡◌, ℕ, ◌+◌, ◌*◌, ◌/◌, ◌%◌, ◌<◌, ◌≤◌, Option, Some, None, is_some, List, [], length, refl, subst, sym, ap, ◌∙◌, arith}
+use Rattle.std.specs.Prelude.{true}
 use Rattle.std.specs.Option.{unwrap_or}
 use Rattle.std.proofs.lemmas.Bool.{false≢true}
 use Rattle.byteorder.specs.Endian.{little_number}
@@ -103,5 +103,5 @@ module _ {D : _} (d : List ℕ → List ℕ) (law : (m : List ℕ) → length (d
     opened-stored_kept =
         let same = word_tells d law new opened-kept.trees page b (omega (arith, opened-kept.zones_kept)) below h.mounted AllHold (sym h.holds) in
         let trees : TreesHold d (stored new page b path) =
-            subst (TreesHold d) opened-stored (with_part-hold d law new opened-kept.trees page b (omega (arith, opened-kept.zones_kept)) below h.mounted (taken new) same at part inside) in
+        subst (TreesHold d) opened-stored (with_part-hold d law new opened-kept.trees page b (omega (arith, opened-kept.zones_kept)) below h.mounted (taken new) same at part inside) in
         record { trees = trees; some = omega (arith, opened-kept.slots_kept, kept.some); few = omega (arith, opened-kept.slots_kept, kept.few) }

@@ -6,7 +6,7 @@ use Rattle.pl_base.specs.Width.{is_width}
 use Rattle.mem_tree.specs.Checks.{Fault, Collision, check_on, collides}
 use Rattle.mem_tree.specs.Paths.{Path, breaks}
 use Rattle.mem_tree.specs.Words.{IsPart}
-use Rattle.std.proofs.Common.{◌≡◌, ℕ, ◌+◌, ◌-◌, ◌*◌, ◌/◌, ◌%◌, ◌<◌, ◌≤◌, List, [], ◌∷◌, length, map, take, drop, get_or, refl, subst, sym, ap, ◌∙◌, arith}
+use Rattle.std.proofs.Common.{◌≡◌, ℕ, ◌+◌, ◌-◌, ◌*◌, ◌/◌, ◌%◌, ◌<◌, ◌≤◌, List, [], ◌∷◌, length, refl, subst, sym, ap, ◌∙◌, arith}
 use Rattle.std.specs.Prelude.{All, true}
 use Rattle.std.proofs.lemmas.List.Elements.{All-cons, All-nil}
 use Rattle.byteorder.specs.Endian.{little_number}
@@ -15,10 +15,10 @@ use Rattle.pl_base.specs.declared.place.Place.{Place}
 use Rattle.pl_base.specs.declared.place.Place.TheVariants.{Block, Node}
 use Rattle.pl_digest.specs.Nodes.{with_entry}
 use Rattle.pl_digest.specs.Trees.{piece, zone_root}
-use Rattle.mem_geom.specs.Layout.{memory_size, place_bytes}
+use Rattle.mem_geom.specs.Layout.{place_bytes}
 use Rattle.mem_geom.specs.PathPlaces.{word_places}
 use Rattle.mem_geom.proofs.Parts.{bytes_at-bytes_at}
-use Rattle.mem_slots.specs.Slots.{is_mounted, rooted_slot}
+use Rattle.mem_slots.specs.Slots.{is_mounted}
 use Rattle.mem_tree.specs.declared.new_path.NewPath.{NewPath}
 use Rattle.mem_tree.specs.Changes.{IsOfZone, PlaceBytes, above_block, at_place, renewed, renewed_root}
 use Rattle.mem_tree.specs.Checks.{Checked, Tells, check, Holds as AllHold}
@@ -31,7 +31,7 @@ use Rattle.mem_ctl.specs.Calls.{slot_root, with_part, with_root, zone_check}
 use Rattle.mem_ctl.specs.Data.{CtlData}
 use Rattle.mem_ctl.specs.Mounting.{put, taken, written}
 use Rattle.mem_ctl.specs.TreesHold.{TreesHold}
-use Rattle.mem_ctl.specs.Words.{IsNewPath, path_written, stored}
+use Rattle.mem_ctl.specs.Words.{IsNewPath, stored}
 use Rattle.mem_ctl.specs.Writes.{with_places, word_at, zone_pages}
 use Rattle.mem_ctl.proofs.RenewedLemmas.{renewed-alike, renewed_root-alike}
 use Rattle.mem_ctl.proofs.SlotLemmas.{root_found}

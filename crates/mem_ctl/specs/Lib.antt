@@ -3,6 +3,7 @@ pub mod Data
 pub mod Mounting
 pub mod Opened
 pub mod Results
+pub mod Tellings
 pub mod TreesHold
 pub mod Words
 pub mod Writes

@@ -6,7 +6,9 @@ mod check;
 mod ctl;
 mod mount;
 mod sealed;
+mod told;
 mod words;
 
 pub use broken::{Broken, Collision};
 pub use ctl::Ctl;
+pub use told::{Op, Told};

@@ -181,7 +181,7 @@ fn write_path(memory: &mut Dram, zones: u8, page: u32, block: u8, path: &NewPath
 }
 
 /// The eight bytes of a block at an offset, as a number.
-fn word_in(block: &[u8; 64], at: u16) -> u64
+pub(crate) fn word_in(block: &[u8; 64], at: u16) -> u64
     requires { at + 8 ≤ 64 }
     ensures { result ≡ little_number 8 (bytes_at block.now at 8) }
 {

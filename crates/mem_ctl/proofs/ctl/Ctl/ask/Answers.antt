@@ -1,13 +1,4 @@
-use Rattle.std.proofs.Common.{◌≡◌, ℕ, ◌/◌, List, refl, rules, ap, ◌∙◌, sym, subst}
 use Rattle.std.specs.Fn.{FnReturnsAt}
-use Rattle.mem_slots.specs.declared.slot_use.SlotUse.{SlotUse}
-use Rattle.mem_tree.specs.Words.{parts_of}
-use Rattle.mem_ctl.specs.declared.broken.Broken.{Broken}
-use Rattle.mem_ctl.specs.Calls.{TakenWord, ask_of, word_taken}
-use Rattle.mem_ctl.specs.Data.{CtlData, Going, Value, answer}
-use Rattle.mem_ctl.specs.Mounting.{mounted_for}
-use Rattle.mem_ctl.specs.Opened.{asked_outcome, word_of_taken}
-use Rattle.mem_ctl.specs.Results.{IsCall}
 use Rattle.mem_ctl.proofs.AskLemmas.{ask_gives, ask_stops}
 use Rattle.mem_ctl.proofs.ctl.Ctl.ask.Goals as goal
 

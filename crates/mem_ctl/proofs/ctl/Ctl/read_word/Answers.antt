@@ -1,4 +1,4 @@
-use Rattle.std.proofs.Common.{◌≡◌, ℕ, ◌/◌, ◌%◌, List, rules, arith, ap, ◌∙◌, sym, subst, ⊎_elim}
+use Rattle.std.proofs.Common.{◌≡◌, ℕ, ◌/◌, ◌%◌, List, ap, ◌∙◌, sym, subst, ⊎_elim}
 use Rattle.std.specs.Prelude.{Err}
 use Rattle.std.specs.Fn.{FnReturnsAt}
 use Rattle.byteorder.specs.Endian.{little_number}
@@ -8,9 +8,9 @@ use Rattle.mem_slots.specs.declared.slot_use.SlotUse.{SlotUse}
 use Rattle.mem_tree.specs.declared.new_path.NewPath.{NewPath}
 use Rattle.mem_ctl.specs.Calls.{accessed, read_word_of, zone_check}
 use Rattle.mem_ctl.specs.Data.{CtlData, Value}
-use Rattle.mem_ctl.specs.Mounting.{mounted_for, used}
-use Rattle.mem_ctl.specs.Opened.{IsOpened, IsRefused, IsRefusedThen}
-use Rattle.mem_ctl.specs.Results.{IsCall, checked_of, outcome_of}
+use Rattle.mem_ctl.specs.Mounting.{mounted_for}
+use Rattle.mem_ctl.specs.Opened.{IsRefusedThen}
+use Rattle.mem_ctl.specs.Results.{IsCall, outcome_of}
 use Rattle.mem_ctl.specs.TreesHold.{IsKept}
 use Rattle.mem_ctl.specs.Writes.{word_at}
 use Rattle.mem_ctl.proofs.AccessCalls.{access_gives, access_refused, access_stops}

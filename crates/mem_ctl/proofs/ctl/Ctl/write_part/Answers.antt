@@ -5,11 +5,11 @@ use Rattle.byteorder.specs.Endian.{little_bytes}
 use Rattle.byteorder.specs.Numbers.{length-bytes_low_first}
 use Rattle.mem_geom.specs.PathPlaces.{word_places}
 use Rattle.mem_slots.specs.declared.slot_use.SlotUse.{SlotUse}
-use Rattle.mem_tree.specs.Words.{IsPart, parts_of}
+use Rattle.mem_tree.specs.Words.{parts_of}
 use Rattle.mem_ctl.specs.Calls.{accessed, with_part, write_part_of, zone_check}
 use Rattle.mem_ctl.specs.Data.{CtlData, Value}
 use Rattle.mem_ctl.specs.Mounting.{mounted_for, taken}
-use Rattle.mem_ctl.specs.Opened.{IsOpened, IsRefusedThen}
+use Rattle.mem_ctl.specs.Opened.{IsRefusedThen}
 use Rattle.mem_ctl.specs.Results.{IsCall, outcome_of}
 use Rattle.mem_ctl.specs.TreesHold.{IsKept}
 use Rattle.mem_ctl.specs.Words.{IsNewPath, stored}
@@ -35,7 +35,7 @@ store-requires-clause-kept g c =
     let inside : at + length part ≤ 64 = omega (arith, length-bytes_low_first 0 c.args.width c.args.value, (part_of c.args.width c.args.offset c.requires.width c.requires.aligned).is_inside) in
     let own : IsNewPath d (parts_of t) t.page t.block_no at part path = search rules in
     let is : IsNewPath d (parts_of t) c.args.page (c.args.offset / 64) at part path =
-        subst (λ (b : ℕ). IsNewPath d (parts_of t) c.args.page b at part path) h.own_block (subst (λ (p : ℕ). IsNewPath d (parts_of t) p t.block_no at part path) h.own_page own) in
+    subst (λ (b : ℕ). IsNewPath d (parts_of t) c.args.page b at part path) h.own_block (subst (λ (p : ℕ). IsNewPath d (parts_of t) p t.block_no at part path) h.own_page own) in
     opened-stored_kept d g.met.D.Digester.digest_length (FnReturnsAt g.F.Fn c.args.self.now.1) c.args.self.now.0 kept c.args.page c.requires.page (c.args.offset / 64) (omega (arith, c.requires.offset)) t c.open_word.new.self.0 h at part inside path is
 
 pub returns-in-Ok-clause-call : goal.returns-in-Ok-clause-call
@@ -56,7 +56,7 @@ returns-in-Ok-clause-call g c =
     let inside : at + length part ≤ 64 = omega (arith, length-bytes_low_first 0 c.args.width c.args.value, (part_of c.args.width c.args.offset c.requires.width c.requires.aligned).is_inside) in
     let own : IsNewPath d (parts_of t) t.page t.block_no at part path = search rules in
     let is : IsNewPath d (parts_of t) page b at part path =
-        subst (λ (k : ℕ). IsNewPath d (parts_of t) page k at part path) h.own_block (subst (λ (p : ℕ). IsNewPath d (parts_of t) p t.block_no at part path) h.own_page own) in
+    subst (λ (k : ℕ). IsNewPath d (parts_of t) page k at part path) h.own_block (subst (λ (p : ℕ). IsNewPath d (parts_of t) p t.block_no at part path) h.own_page own) in
     let change = λ (x : CtlData). with_part d (taken x) page b at part x in
     let call = access_gives gives d page (word_places page b) (λ (x : CtlData). tt) change old h.between h.mounts (h.holds ∙ ap (λ (w : CtlData). zone_check d w (page / 64) (word_places page b)) h.now) in
     let stored_is : change new ≡ stored new page b path = opened-stored d g.met.D.Digester.digest_length gives old kept page c.requires.page b (omega (arith, c.requires.offset)) t new h at part inside path is in
