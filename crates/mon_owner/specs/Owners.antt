@@ -14,8 +14,8 @@ abbrev pub owner_at : List Owner → ℕ → Owner
 owner_at owners page = unwrap_or (slice_get owners page) Guard
 
 -- these pages have this owner, and each other page its own
-unfoldable pub with_owner : List Owner → List ℕ → Owner → List Owner
-with_owner owners pages to = map (λ page. if is_among pages page then to else owner_at owners page) (range_with_len 0 (length owners))
+unfoldable pub given_to : List Owner → List ℕ → Owner → List Owner
+given_to owners pages to = map (λ page. if is_among pages page then to else owner_at owners page) (range_with_len 0 (length owners))
 
 -- a host page with fewer mappings than may be counted
 abbrev pub may_be_mapped : Owner → Bool

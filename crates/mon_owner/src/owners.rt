@@ -35,7 +35,7 @@ impl Model for Owners {
 }
 
 impl Owners {
-    ghost use Rattle.mon_owner.specs.Owners.{first_owners, with_owner, owner_at, may_be_mapped, is_mapped, mapped_once_more, mapped_once_less};
+    ghost use Rattle.mon_owner.specs.Owners.{first_owners, given_to, owner_at, may_be_mapped, is_mapped, mapped_once_more, mapped_once_less};
 
     /// The owners of `pages` pages, of which the first `guard` are guarded; the others are the host's, with no mappings.
     pub fn new(alloc: Global, guard: u32, pages: u32) -> Result<Owners, Memory>
@@ -59,7 +59,7 @@ impl Owners {
     pub fn take_all(&mut self, pages: &[u32], to: Owner)
         requires distinct { first_twice pages.now ≡ None }
         requires free { All (λ page. slice_get self.old page ≡ Some (Owner.Host 0)) pages.now }
-        ensures owners { self.new ≡ with_owner self.old pages.now to }
+        ensures owners { self.new ≡ given_to self.old pages.now to }
         ensures size { length self.new ≡ length self.old }
     {
         self.set_all(pages, to);
@@ -68,7 +68,7 @@ impl Owners {
     /// Gives pages back to the host, with no mappings. All others stay.
     pub fn give_all(&mut self, pages: &[u32])
         requires { All (λ page. page < length self.old) pages.now }
-        ensures owners { self.new ≡ with_owner self.old pages.now (Owner.Host 0) }
+        ensures owners { self.new ≡ given_to self.old pages.now (Owner.Host 0) }
         ensures size { length self.new ≡ length self.old }
     {
         self.set_all(pages, Owner::Host { maps: 0 });
@@ -98,7 +98,7 @@ impl Owners {
 
     fn set_all(&mut self, pages: &[u32], to: Owner)
         requires { All (λ page. page < length self.old) pages.now }
-        ensures owners { self.new ≡ with_owner self.old pages.now to }
+        ensures owners { self.new ≡ given_to self.old pages.now to }
         ensures size { length self.new ≡ length self.old }
     {
         for page in pages {

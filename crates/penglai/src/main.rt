@@ -1,9 +1,14 @@
-//! The program: the process's words, standard input and standard output, handed to the top call.
+//! The program: the process's words, standard input and standard output, handed to the top call. Why it isn't done, if it isn't,
+//! is told on standard error.
 #![tactic(auto)]
 
+mod advice;
+
+use advice::advise;
 use penglai_main::{Status, quick};
 use pl_io::{StdSink, StdSource};
 use std::alloc::{AllocError, Global};
+use std::io::ErrorKind;
 use std::process::ExitCode;
 use std::{env, io};
 
@@ -16,19 +21,28 @@ fn words_of(alloc: Global, arguments: env::Args) -> Result<Vec<String>, AllocErr
     Ok(words)
 }
 
-fn main(rt: HostRuntime) -> ExitCode {
+// What the process is asked for, done.
+fn status_of(rt: HostRuntime) -> Status {
     let alloc = rt.alloc();
-    let status = match env::args(&rt) {
-        Ok(arguments) => match words_of(alloc, arguments) {
-            Ok(words) => quick(
-                alloc,
-                &words,
-                &mut StdSource::new(rt.reader()),
-                &mut StdSink::new(io::writer(&rt)),
-            ),
-            Err(_) => Status::NoMemory,
-        },
-        Err(_) => Status::BadWords,
+    let arguments = match env::args(&rt) {
+        Ok(arguments) => arguments,
+        Err(error) if error.kind() == ErrorKind::OutOfMemory => return Status::NoMemory,
+        Err(_) => return Status::BadWords,
     };
+    match words_of(alloc, arguments) {
+        Ok(words) => quick(
+            alloc,
+            &words,
+            &mut StdSource::new(rt.reader()),
+            &mut StdSink::new(io::writer(&rt)),
+        ),
+        Err(_) => Status::NoMemory,
+    }
+}
+
+fn main(rt: HostRuntime) -> ExitCode {
+    let status = status_of(rt);
+    // Where standard error takes nothing, the status alone tells.
+    let _ = advise(&rt, status);
     ExitCode::from(status.code())
 }

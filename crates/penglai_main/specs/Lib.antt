@@ -1,2 +1,4 @@
+pub mod Ends
 pub mod Measure
 pub mod Top
+pub mod Unread

@@ -1,36 +1,26 @@
 -- What the top call read and wrote, for each status that it ends with. The counts of faults and the bytes are those of
 -- the source and the sink that it was handed, where these tell them.
-use Rattle.std.specs.Prelude.{◌≡◌, ◌≤◌, ◌⊎◌, ℕ, List, [], ◌∷◌, ◌++◌, codes, decimal, Option, Some, None, IfSome, Result, Ok, Err, ⊤, if◌then◌else◌}
-use Rattle.std.specs.Io.KnownBytes.{Appends, IsAtEnd}
+use Rattle.std.specs.Prelude.{◌≡◌, ◌⊎◌, ℕ, List, [], ◌∷◌, ◌++◌, codes, decimal, Option, Some, None, Ok, Err, if◌then◌else◌}
 use Rattle.std.specs.Str.{bytes_eq}
-use Rattle.pl_io.specs.Causes.{Rose}
-use Rattle.pl_io.specs.Bytes.{AppendsPrefix}
 use Rattle.pl_history.specs.declared.setup.SetupParts.{SetupParts}
-use Rattle.pl_history.specs.History.{HistoryData}
+use Rattle.pl_history.specs.History.{HistoryData, IsHistory}
 use Rattle.pl_history.specs.Legal.{Legal, AllAnswered}
+use Rattle.pl_history.specs.Rules.{IsSetup}
 use Rattle.pl_history.specs.Text.{output_text}
 use Rattle.world_core.specs.Unbuilt.{first_unbuilt_of}
 use Rattle.world_setup.specs.Checked.{Checked, ◌>>=◌, none_at}
 use Rattle.world_setup.specs.SetupOf.{setup_of}
 use Rattle.penglai_main.specs.declared.top.Command.{Command}
 use Rattle.penglai_main.specs.declared.top.Command.TheVariants.{Solo, Measure}
-use Rattle.penglai_main.specs.declared.top.Status.{Status}
-use Rattle.penglai_main.specs.declared.top.Status.TheVariants as status_is
-use Rattle.penglai_main.specs.declared.top.Unread.{Unread}
-use Rattle.penglai_main.specs.declared.top.Unread.TheVariants as unread
+use Rattle.penglai_main.specs.declared.status.Status.{Status}
+use Rattle.penglai_main.specs.declared.status.Status.TheVariants as status_is
+use Rattle.penglai_main.specs.Ends.{Ends, Reads, ReadsToEnd, Writes, WritesPrefix, WritesNothing, Failed}
 use Rattle.penglai_main.specs.Measure.{measurements_text}
 
 -- the words are exactly one word, a command
 abbrev pub command_of : List (List ℕ) → Option Command
 command_of (word ∷ []) = if bytes_eq word (codes "solo") then Some Solo else if bytes_eq word (codes "measure") then Some Measure else None
 command_of _ = None
-
--- the bytes that are left to read or that were written, and the count of faults, before a call and after it
-pub record Ends : Type 0 where
-  pub old : Option (List ℕ)
-  pub new : Option (List ℕ)
-  pub before : ℕ
-  pub now : ℕ
 
 -- rule 99, the last, fails at what isn't built
 abbrev pub runnable : SetupParts → Checked SetupParts
@@ -47,41 +37,49 @@ abbrev pub taken_of : Command → List ℕ → Checked SetupParts
 taken_of Solo = runnable_of
 taken_of Measure = setup_of
 
--- the setup of what was left to read, or the first rule that fails
-abbrev pub Reads : (List ℕ → Checked SetupParts) → Ends → Checked SetupParts → Type 0
-Reads setup_in source answer = IfSome source.old (λ bytes. setup_in bytes ≡ answer)
-
-abbrev pub Writes : Ends → List ℕ → Type 0
-Writes sink text = Appends sink.old sink.new text
-
-abbrev pub WritesNothing : Ends → Type 0
-WritesNothing sink = Writes sink []
-
 abbrev pub bad_setup_text : ℕ → ℕ → List ℕ
 bad_setup_text rule item = codes "bad setup " ++ (decimal rule ++ (codes " " ++ (decimal item ++ 10 ∷ [])))
 
--- a whole run: the source was read to its end and is a setup; the text is a history that the abstract monitor allows,
--- in which every line is answered, and its report
-pub record IsRun (source : Ends) (text : List ℕ) : Type 0 where
-  pub at_end : IsAtEnd source.new
+-- how a run ends: each line is answered; two different byte strings of one digest are kept; no actor can go on
+pub data RunEnd : Type 0 where
+  done : RunEnd
+  collision : RunEnd
+  stuck : RunEnd
+
+-- what a history shows where its run ends so; the world that is built ends in the first way alone
+abbrev pub EndsBy : RunEnd → SetupParts → HistoryData → Type 0
+EndsBy done setup history = AllAnswered setup history.bytes history.entries
+EndsBy collision setup history = ⊥
+EndsBy stuck setup history = ⊥
+
+-- what is known of the world that a run ends with: its setup and its history meet their rules, and the abstract monitor
+-- allows the history
+pub record RunFacts (end : RunEnd) (setup : SetupParts) (history : HistoryData) : Type 0 where
+  pub setup_rules : IsSetup setup
+  pub history_rules : IsHistory history
+  pub legal : Legal setup history.bytes history.entries
+  pub ends : EndsBy end setup history
+
+-- a whole run: the source was read to its end and is a setup; the text is the history of its run, and its report
+pub record IsRun (end : RunEnd) (source : Ends) (text : List ℕ) : Type 0 where
+  pub at_end : ReadsToEnd source
   pub setup : SetupParts
   pub reads : Reads runnable_of source (Ok setup)
   pub history : HistoryData
-  pub legal : Legal setup history.bytes history.entries
-  pub answered : AllAnswered setup history.bytes history.entries
+  pub facts : RunFacts end setup history
   pub text_is : text ≡ output_text setup.harts history
 
 -- measured images: the source was read to its end and is a setup; the text is one line for each of its images
 pub record IsMeasured (source : Ends) (text : List ℕ) : Type 0 where
-  pub at_end : IsAtEnd source.new
+  pub at_end : ReadsToEnd source
   pub setup : SetupParts
   pub reads : Reads setup_of source (Ok setup)
   pub text_is : text ≡ measurements_text setup.images
 
--- what a command writes of a setup
+-- what a command that is done writes of a setup
 abbrev pub IsOutput : Command → Ends → List ℕ → Type 0
-IsOutput Solo = IsRun
-IsOutput Measure = IsMeasured
+IsOutput Solo source text = IsRun done source text
+IsOutput Measure source text = IsMeasured source text
 
 -- a refused setup, with the first rule that fails and its item
 pub record IsRefusal (command : Command) (source : Ends) (rule item : ℕ) (text : List ℕ) : Type 0 where
@@ -96,9 +94,9 @@ MayWrite command source text = IsOutput command source text ⊎ ((rule : ℕ) ×
 abbrev pub Explains : Command → Ends → Ends → Status → Type 0
 Explains command source sink status_is.Done = (text : List ℕ) × IsOutput command source text × Writes sink text
 Explains command source sink status_is.BadWords = ⊥
-Explains command source sink status_is.ReadFault = Rose source.before source.now × WritesNothing sink
-Explains command source sink status_is.WriteFault = Rose sink.before sink.now × ((text : List ℕ) × MayWrite command source text × AppendsPrefix sink.old sink.new text)
-Explains command source sink (status_is.BadSetup rule item) = (text : List ℕ) × IsRefusal command source rule item text × Writes sink text
+Explains command source sink status_is.ReadFault = Failed source × WritesNothing sink
+Explains command source sink status_is.WriteFault = Failed sink × ((text : List ℕ) × MayWrite command source text × WritesPrefix sink text)
+Explains command source sink (status_is.BadSetup rule item cause) = (text : List ℕ) × IsRefusal command source rule item text × Writes sink text
 Explains command source sink status_is.NoMemory = WritesNothing sink
 
 -- the exit status of the program
@@ -107,24 +105,5 @@ status_code status_is.Done = 0
 status_code status_is.BadWords = 1
 status_code status_is.ReadFault = 2
 status_code status_is.WriteFault = 3
-status_code (status_is.BadSetup rule item) = 4
+status_code (status_is.BadSetup rule item cause) = 4
 status_code status_is.NoMemory = 5
-
--- the line of a refused setup was written, or a front of it where a write failed
-abbrev pub Refuses : Option (List ℕ) → Option (List ℕ) → ℕ → ℕ → ℕ → ℕ → Status → Type 0
-Refuses old new before now rule item (status_is.BadSetup r i) = (r ≡ rule) × (i ≡ item) × Appends old new (bad_setup_text rule item) × (before ≤ now)
-Refuses old new before now rule item status_is.WriteFault = Rose before now × AppendsPrefix old new (bad_setup_text rule item) × (before ≤ now)
-Refuses old new before now rule item _ = ⊥
-
--- how the answer of a reader follows from what was left to read
-abbrev pub Obtains : (List ℕ → Checked SetupParts) → Ends → Result SetupParts Unread → Type 0
-Obtains setup_in source (Ok setup) = IsAtEnd source.new × Reads setup_in source (Ok setup)
-Obtains setup_in source (Err unread.Memory) = ⊤
-Obtains setup_in source (Err unread.ReadFault) = Rose source.before source.now
-Obtains setup_in source (Err (unread.Bad rule item)) = Reads setup_in source (Err (rule, item))
-
--- no setup was read: its refusal is written, and nothing where memory or a read is the cause
-abbrev pub Declines : Option (List ℕ) → Option (List ℕ) → ℕ → ℕ → Unread → Status → Type 0
-Declines old new before now (unread.Bad rule item) status = Refuses old new before now rule item status
-Declines old new before now unread.Memory status = (status ≡ status_is.NoMemory) × Appends old new [] × (before ≤ now)
-Declines old new before now unread.ReadFault status = (status ≡ status_is.ReadFault) × Appends old new [] × (before ≤ now)

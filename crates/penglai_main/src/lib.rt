@@ -2,9 +2,15 @@
 #![tactic(auto)]
 
 mod measure;
+mod sentences;
+mod status;
 mod top;
+mod unread;
 
-pub use top::{Status, quick};
+pub use sentences::rule_text;
+pub use status::Status;
+pub use top::quick;
+pub use world_setup::RuleText;
 
 #[cfg(test)]
 mod tests;

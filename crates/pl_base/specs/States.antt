@@ -1,5 +1,8 @@
 -- Which states of an enclave number let a line through, and the state in which a run leaves it.
-use Rattle.std.specs.Prelude.{Bool, true, false}
+use Rattle.std.specs.Prelude.{Bool, true, false, not, [], ◌∷◌, Option}
+use Rattle.pl_base.specs.Refusals.{refuse, first_refusal}
+use Rattle.pl_base.specs.declared.refusal.No.{No}
+use Rattle.pl_base.specs.declared.refusal.No.TheVariants.{NoEnclave, WrongState}
 use Rattle.pl_base.specs.declared.state.State.{State}
 use Rattle.pl_base.specs.declared.state.State.TheVariants as state_is
 use Rattle.pl_base.specs.declared.state.Why.{Why}
@@ -16,6 +19,18 @@ is_fresh _ = false
 abbrev pub is_paused : State → Bool
 is_paused state_is.Paused = true
 is_paused _ = false
+
+-- sealed: forks may share its pages
+abbrev pub is_sealed : State → Bool
+is_sealed state_is.Sealed = true
+is_sealed _ = false
+
+-- on, building or dying: a line has the number under way
+abbrev pub is_under_way : State → Bool
+is_under_way state_is.On = true
+is_under_way state_is.Building = true
+is_under_way state_is.Dying = true
+is_under_way _ = false
 
 -- free or sealed: there is no enclave to run
 abbrev pub is_absent : State → Bool
@@ -37,3 +52,11 @@ state_left (Ended code) = state_is.Ended
 state_left (Trapped cause value) = state_is.Trapped
 state_left (Fault place) = state_is.Faulted
 state_left _ = state_is.Paused
+
+-- why a number can't be run: there is no enclave, or its state isn't the one that the line needs
+abbrev pub run_refusal : (State → Bool) → State → Option No
+run_refusal may_run state = first_refusal (refuse (is_absent state) NoEnclave ∷ refuse (not (may_run state)) (WrongState state) ∷ [])
+
+-- why an enclave can't be given a spare or be given back: there is none, or a line has it under way
+abbrev pub destroy_refusal : State → Option No
+destroy_refusal state = first_refusal (refuse (is_absent state) NoEnclave ∷ refuse (is_under_way state) (WrongState state) ∷ [])

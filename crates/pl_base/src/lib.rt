@@ -22,7 +22,7 @@ pub use address::{Pa, Ppn, Va, Vpn};
 pub use fault::{Failed, Memory};
 pub use listed::Listed;
 pub use number::{EncNo, HartNo, HartSet, Space};
-pub use page::{IMAGE_START, PAGE_BYTES};
+pub use page::{IMAGE_START, MOST_IMAGE_PAGES, MOST_SPARES, PAGE_BYTES};
 pub use perms::Perms;
 pub use place::Place;
 pub use refusal::No;

@@ -1,6 +1,6 @@
 // The states of an enclave number, and why a run leaves.
 ghost use Rattle.std.specs.Prelude.{◌≡◌};
-ghost use Rattle.pl_base.specs.States.{is_free, is_fresh, is_paused, is_absent, is_wordless, state_left};
+ghost use Rattle.pl_base.specs.States.{is_absent, is_free, is_fresh, is_paused, is_sealed, is_under_way, is_wordless, state_left};
 
 use crate::place::Place;
 
@@ -39,6 +39,20 @@ impl State {
         ensures { result ≡ is_paused self }
     {
         matches!(self, State::Paused)
+    }
+
+    /// Whether forks may share its pages.
+    pub fn is_sealed(self) -> bool
+        ensures { result ≡ is_sealed self }
+    {
+        matches!(self, State::Sealed)
+    }
+
+    /// Whether a line has the number under way: it is on, building or dying.
+    pub fn is_under_way(self) -> bool
+        ensures { result ≡ is_under_way self }
+    {
+        matches!(self, State::On | State::Building | State::Dying)
     }
 
     /// Whether there is no enclave to run: the number is free or sealed.

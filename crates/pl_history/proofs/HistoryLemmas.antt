@@ -1,7 +1,7 @@
 -- Histories grow by an entry at a time, and their bytes by more bytes.
-use Rattle.std.proofs.Common.{◌≡◌, ℕ, ◌+◌, ◌≤◌, Bool, true, false, List, [], ◌∷◌, ◌++◌, length, take, drop, Option, Some, None, slice_get, if◌then◌else◌, ◌==◌, ◌&&◌, refl, sym, ap, ◌∙◌, subst, arith}
+use Rattle.std.proofs.Common.{◌≡◌, ℕ, ◌+◌, ◌≤◌, Bool, List, [], ◌∷◌, ◌++◌, length, take, drop, Option, Some, None, slice_get, if◌then◌else◌, ◌==◌, ◌&&◌, refl, sym, ap, ◌∙◌, subst, arith}
 use Rattle.std.specs.Option.{option_map_or, option_or}
-use Rattle.std.specs.List.{All, AllByRecursion}
+use Rattle.std.specs.List.{AllByRecursion}
 use Rattle.std.proofs.lemmas.List.{append-nil, append_assoc, take-append-le, drop-append-le, length-drop}
 use Rattle.std.proofs.lemmas.List.Elements.{recursion_from_All}
 use Rattle.pl_base.specs.Bytes.{bytes_at}
@@ -13,7 +13,7 @@ use Rattle.pl_history.specs.declared.answer.Entry.{Entry}
 use Rattle.pl_history.specs.declared.setup.SetupParts.{SetupParts}
 use Rattle.pl_history.specs.Attacking.{Placed, keeps_name, kept_part, latest_kept, AllowedWrote, AllowedKept}
 use Rattle.pl_history.specs.History.{part_end, named_part, NamesPart}
-use Rattle.pl_history.specs.Legal.{ActorLine, of_hart, of_attacker, line_at, AllowedAttack, AllowedLine, Allowed, after_line, after, state_after, AllAllowed, legal_state, Legal}
+use Rattle.pl_history.specs.Legal.{ActorLine, of_hart, of_attacker, line_at, AllowedAttack, AllowedLine, Allowed, after_line, after, state_after, AllAllowed}
 use Rattle.pl_history.specs.Laws.{OneMoreIsLegal, OneMoreGives, MoreBytesLeaveLegal, MoreBytesLeaveState}
 use Rattle.pl_history.specs.Monitor.{Monitor, opening}
 

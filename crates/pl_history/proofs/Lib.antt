@@ -1,1 +1,8 @@
+mod AccessCases
+mod AttackCases
+mod CaseStates
+mod HistoryCases
 pub mod HistoryLemmas
+mod MakingCases
+mod ProtectionLemmas
+mod RunCases

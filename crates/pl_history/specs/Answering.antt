@@ -40,7 +40,8 @@ EndsDoneOrFaulted Licensed now = now ≡ answer_is.Ok
 
 -- ---- what the answers change
 
--- the state after each answer to a line, but for how far its actor is
+-- the state after each answer to a line, but for how far its actor is: after Left by its count and reason, after Wrote by its flag and
+-- address
 pub record Changes : Type 0 where
   pub begun : Monitor
   pub ok : Monitor
@@ -48,12 +49,12 @@ pub record Changes : Type 0 where
   pub word : Monitor
   pub left : ℕ → Why → Monitor
   pub no : Monitor
-  pub wrote : Bool → Monitor
+  pub wrote : Bool → ℕ → Monitor
   pub kept : Monitor
 
 -- no answer changes anything
 abbrev pub unchanged : Monitor → Changes
-unchanged s = record { begun = s; ok = s; value = s; word = s; left = λ count why. s; no = s; wrote = λ changed. s; kept = s }
+unchanged s = record { begun = s; ok = s; value = s; word = s; left = λ count why. s; no = s; wrote = λ changed pa. s; kept = s }
 
 abbrev pub change_by : Changes → Answer → Monitor
 change_by changes answer_is.Begun = changes.begun
@@ -62,7 +63,7 @@ change_by changes (answer_is.Value value) = changes.value
 change_by changes (answer_is.Word word) = changes.word
 change_by changes (answer_is.Left count why) = changes.left count why
 change_by changes (answer_is.No cause) = changes.no
-change_by changes (answer_is.Wrote changed pa from len) = changes.wrote changed
+change_by changes (answer_is.Wrote changed pa from len) = changes.wrote changed pa
 change_by changes (answer_is.Kept pa from len) = changes.kept
 
 -- after Begun the actor's line is under way, and after any other answer it is answered

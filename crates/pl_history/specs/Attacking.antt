@@ -1,5 +1,5 @@
 -- The attacker's lines: `write`, `keep` and `back`.
-use Rattle.std.specs.Prelude.{◌≡◌, ℕ, ◌+◌, ◌-◌, ◌/◌, ◌%◌, ◌==◌, ◌&&◌, ◌||◌, Bool, true, false, not, if◌then◌else◌, List, [], ◌∷◌, ◌++◌, length, take, drop, Option, Some, None, slice_get}
+use Rattle.std.specs.Prelude.{◌≡◌, ℕ, ◌+◌, ◌-◌, ◌/◌, ◌%◌, ◌==◌, ◌&&◌, ◌||◌, Bool, true, false, not, if◌then◌else◌, List, [], ◌∷◌, ◌++◌, length, take, drop, Option, Some, None, is_some, slice_get}
 use Rattle.std.specs.Option.{option_or}
 use Rattle.std.specs.Str.{bytes_eq}
 use Rattle.pl_base.specs.Bytes.{with_bytes}
@@ -11,7 +11,7 @@ use Rattle.pl_history.specs.declared.line.AttackLine.{AttackLine}
 use Rattle.pl_history.specs.declared.line.AttackLine.TheVariants as attack
 use Rattle.pl_history.specs.declared.setup.SetupParts.{SetupParts}
 use Rattle.pl_history.specs.History.{named_part}
-use Rattle.pl_history.specs.Monitor.{Attack, Monitor, is_host}
+use Rattle.pl_history.specs.Monitor.{Monitor, is_host}
 
 -- ---- bytes of the host's pages, by their address off chip
 
@@ -21,23 +21,20 @@ host_byte s address =
     let page = (address - page_start 0) / 4096 in
     if is_host (s.owner page) then slice_get (s.bytes page) (address % 4096) else None
 
--- one of these bytes, from an address on, is another than the host's at its address
+-- a byte is another than the host's at its address
 abbrev pub is_other : ℕ → Option ℕ → Bool
 is_other byte None = false
 is_other byte (Some old) = not (old == byte)
 
+-- one of these bytes, from an address on, is another than the host's
 abbrev pub changes_host : Monitor → ℕ → List ℕ → Bool
 changes_host s address [] = false
 changes_host s address (byte ∷ bytes) = is_other byte (host_byte s address) || changes_host s (address + 1) bytes
 
 -- each of these bytes, from an address on, is the host's
-abbrev pub is_there : Option ℕ → Bool
-is_there None = false
-is_there (Some byte) = true
-
 abbrev pub lies_in_host : Monitor → ℕ → List ℕ → Bool
 lies_in_host s address [] = true
-lies_in_host s address (byte ∷ bytes) = is_there (host_byte s address) && lies_in_host s (address + 1) bytes
+lies_in_host s address (byte ∷ bytes) = is_some (host_byte s address) && lies_in_host s (address + 1) bytes
 
 -- ---- what was kept
 
@@ -94,8 +91,8 @@ AllowedKept s address count part begun now = ⊥
 -- ---- what they change
 
 -- a page with the bytes from an address on, as far as they fall into it
-abbrev pub page_written : ℕ → List ℕ → Placed → List ℕ
-page_written page old now =
+abbrev pub overwritten_page : ℕ → List ℕ → Placed → List ℕ
+overwritten_page page old now =
     let start = now.address - page_start page in
     with_bytes old start (take (4096 - start) (drop (page_start page - now.address) now.bytes))
 
@@ -106,4 +103,4 @@ with_attack s now true = record s { attacks = s.attacks ++ record { address = no
 -- the host's pages take the bytes, and an attack that changed a byte is remembered
 abbrev pub written : Monitor → Placed → Bool → Monitor
 written s now changed =
-    with_attack (record s { bytes = λ page. if is_host (s.owner page) then page_written page (s.bytes page) now else s.bytes page }) now changed
+    with_attack (record s { bytes = λ page. if is_host (s.owner page) then overwritten_page page (s.bytes page) now else s.bytes page }) now changed

@@ -3,24 +3,17 @@ use Rattle.std.specs.Prelude.{ℕ, ◌==◌, Bool, false, not, if◌then◌else�
 use Rattle.std.specs.List.{range_with_len}
 use Rattle.pl_base.specs.Pages.{is_among}
 use Rattle.pl_base.specs.Refusals.{refuse, first_refusal}
-use Rattle.pl_base.specs.States.{is_absent}
-use Rattle.pl_base.specs.declared.number.EncNo.{EncNo}
+use Rattle.pl_base.specs.States.{destroy_refusal, is_sealed}
 use Rattle.pl_base.specs.declared.refusal.No.{No}
-use Rattle.pl_base.specs.declared.refusal.No.TheVariants.{NoEnclave, WrongState, InUse}
-use Rattle.pl_base.specs.declared.state.State.{State}
+use Rattle.pl_base.specs.declared.refusal.No.TheVariants.{NoEnclave, InUse}
 use Rattle.pl_base.specs.declared.state.State.TheVariants.{Dying}
 use Rattle.pl_history.specs.declared.answer.Answer.{Answer}
 use Rattle.pl_history.specs.declared.answer.Answer.TheVariants as answer_is
 use Rattle.pl_history.specs.declared.setup.SetupParts.{SetupParts}
 use Rattle.pl_history.specs.Answering.{AtOnce, Begins, EndsDone}
-use Rattle.pl_history.specs.Making.{is_sealed, is_under_way}
-use Rattle.pl_history.specs.Monitor.{host, Monitor, freed, held, with_number, with_owner}
+use Rattle.pl_history.specs.Monitor.{host, Monitor, freed, pages_taken, with_number, with_owner}
 
 -- ---- the answers
-
--- why an enclave can't be given back: there is none, or a line has it under way
-abbrev pub destroy_refusal : State → Option No
-destroy_refusal state = first_refusal (refuse (is_absent state) NoEnclave ∷ refuse (is_under_way state) (WrongState state) ∷ [])
 
 abbrev pub is_parent : ℕ → Option ℕ → Bool
 is_parent e None = false
@@ -55,6 +48,6 @@ zeros = replicate 4096 0
 -- all pages that the number took are zeroed pages of the host, and the number is free
 abbrev pub given_back : Monitor → ℕ → Monitor
 given_back s e =
-    let pages = held (s.number e) in
+    let pages = pages_taken (s.number e) in
     let free = with_owner (with_number s e (freed (s.number e))) pages host in
     record free { bytes = λ page. if is_among pages page then zeros else s.bytes page }

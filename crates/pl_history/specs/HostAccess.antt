@@ -1,5 +1,5 @@
 -- The host's accesses to memory: `load` and `store`.
-use Rattle.std.specs.Prelude.{◌≡◌, ◌⊎◌, ℕ, ◌+◌, ◌%◌, ◌==◌, Bool, true, false, not, if◌then◌else◌, List, [], ◌∷◌, Option, Some, None, option_map}
+use Rattle.std.specs.Prelude.{◌≡◌, ◌⊎◌, ℕ, ◌+◌, ◌%◌, ◌==◌, Bool, true, false, not, if◌then◌else◌, [], ◌∷◌, Option, Some, None}
 use Rattle.byteorder.specs.Endian.{little_number, little_bytes}
 use Rattle.pl_base.specs.Address.{vpn_of}
 use Rattle.pl_base.specs.Bytes.{bytes_at, with_bytes}
@@ -20,8 +20,8 @@ use Rattle.pl_history.specs.declared.setup.SetupParts.{SetupParts}
 use Rattle.pl_history.specs.Answering.{FaultsOr}
 use Rattle.pl_history.specs.Licence.{Licensed}
 use Rattle.pl_history.specs.Monitor.{Monitor, removed_at}
-use Rattle.pl_history.specs.Protection.{protection_of}
-use Rattle.pl_history.specs.Space.{Mapping, mapping_at}
+use Rattle.pl_history.specs.Protection.{pmp_of}
+use Rattle.mon_tables.specs.Space.{Mapping, mapping_at}
 
 -- ---- the answers
 
@@ -33,7 +33,7 @@ address_refusal va = first_refusal (refuse (not (va.0 % 8 == 0)) Misaligned ∷ 
 abbrev pub mapping_refusal : SetupParts → Kind → Va → Mapping → Option No
 mapping_refusal setup kind va m = first_refusal (
     refuse (not (grants m.perms kind)) PageFault
-    ∷ refuse (not (permits (protection_of setup) (page_start m.page + va.0 % 4096) 8 kind)) AccessFault
+    ∷ refuse (not (permits (pmp_of setup) (page_start m.page + va.0 % 4096) 8 kind)) AccessFault
     ∷ [])
 
 -- refused, or what the access gives
@@ -42,11 +42,12 @@ answer_or None gives = gives
 answer_or (Some cause) gives = answer_is.No cause
 
 -- the eight bytes at an address of the host, little-endian
-abbrev pub loaded : Monitor → Va → Mapping → ℕ
-loaded s va m = little_number 8 (bytes_at (s.bytes m.page) (va.0 % 4096) 8)
+abbrev pub host_word : Monitor → Va → Mapping → ℕ
+host_word s va m = little_number 8 (bytes_at (s.bytes m.page) (va.0 % 4096) 8)
 
+-- what a load by a mapping is answered, and a store
 abbrev pub load_by : SetupParts → Monitor → Va → Mapping → Answer
-load_by setup s va m = answer_or (mapping_refusal setup kind.Load va m) (answer_is.Value (loaded s va m))
+load_by setup s va m = answer_or (mapping_refusal setup kind.Load va m) (answer_is.Value (host_word s va m))
 
 abbrev pub store_by : SetupParts → Va → Mapping → Answer
 store_by setup va m = answer_or (mapping_refusal setup kind.Store va m) answer_is.Ok
@@ -58,6 +59,7 @@ AnswersBy by (Some m) removed now = now ≡ by m
 AnswersBy by None (Some m) now = (now ≡ by m) ⊎ (now ≡ answer_is.No PageFault)
 AnswersBy by None None now = now ≡ answer_is.No PageFault
 
+-- an access is refused by its address, or answered by a mapping
 abbrev pub HostAccess : Option No → (Mapping → Answer) → Monitor → Va → Bool → Answer → Type 0
 HostAccess refusal by s va true now = ⊥
 HostAccess (Some cause) by s va false now = now ≡ answer_is.No cause
@@ -82,5 +84,5 @@ store_to s va word None = s
 store_to s va word (Some m) =
     record s { bytes = λ page. if page == m.page then with_bytes (s.bytes page) (va.0 % 4096) (little_bytes 8 word) else s.bytes page }
 
-abbrev pub stored : Monitor → Va → ℕ → Monitor
-stored s va word = store_to s va word (mapping_used (mapping_at s.space (vpn_of va).0) (removed_at s.removals (vpn_of va).0))
+abbrev pub host_stored : Monitor → Va → ℕ → Monitor
+host_stored s va word = store_to s va word (mapping_used (mapping_at s.space (vpn_of va).0) (removed_at s.removals (vpn_of va).0))

@@ -1,5 +1,5 @@
 -- The host's mappings: `map` and `unmap`.
-use Rattle.std.specs.Prelude.{◌≡◌, ℕ, ◌*◌, ◌%◌, ◌==◌, ◌&&◌, nat_lt, Bool, not, List, [], ◌∷◌, ◌++◌, filter, Option, Some, None, is_some}
+use Rattle.std.specs.Prelude.{ℕ, ◌*◌, ◌%◌, ◌==◌, ◌&&◌, nat_lt, Bool, not, List, [], ◌∷◌, ◌++◌, filter, Option, Some, None, is_some}
 use Rattle.pl_base.specs.Address.{vpn_of}
 use Rattle.pl_base.specs.Refusals.{refuse, first_refusal}
 use Rattle.pl_base.specs.declared.address.Va.{Va}
@@ -13,7 +13,7 @@ use Rattle.pl_history.specs.declared.setup.SetupParts.{SetupParts}
 use Rattle.pl_history.specs.Answering.{AtOnce, Begins, FaultsOr, EndsDone}
 use Rattle.pl_history.specs.Licence.{Licensed}
 use Rattle.pl_history.specs.Monitor.{Removal, Monitor, is_host, removed_at}
-use Rattle.pl_history.specs.Space.{Mapping, mapping_at, without_vpn}
+use Rattle.mon_tables.specs.Space.{Mapping, mapping_at, without_vpn}
 
 -- ---- the answers
 

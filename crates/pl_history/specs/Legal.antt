@@ -7,14 +7,13 @@ use Rattle.pl_history.specs.declared.line.Line.TheVariants.{Load, Store, Map, Un
 use Rattle.pl_history.specs.declared.line.AttackLine.{AttackLine}
 use Rattle.pl_history.specs.declared.line.AttackLine.TheVariants as attack
 use Rattle.pl_history.specs.declared.answer.Answer.{Answer}
-use Rattle.pl_history.specs.declared.answer.Answer.TheVariants as answer_is
 use Rattle.pl_history.specs.declared.answer.Entry.{Entry}
 use Rattle.pl_history.specs.declared.setup.SetupParts.{SetupParts}
 use Rattle.pl_history.specs.Answering.{Changes, unchanged, change_by, progressed}
-use Rattle.pl_history.specs.Attacking.{Placed, latest_kept, AllowedWrote, AllowedKept, written}
+use Rattle.pl_history.specs.Attacking.{latest_kept, AllowedWrote, AllowedKept, written}
 use Rattle.pl_history.specs.GivingBack.{AllowedDestroy, AllowedDrop, dying, given_back}
 use Rattle.pl_history.specs.History.{named_part}
-use Rattle.pl_history.specs.HostAccess.{AllowedLoad, AllowedStore, stored}
+use Rattle.pl_history.specs.HostAccess.{AllowedLoad, AllowedStore, host_stored}
 use Rattle.pl_history.specs.HostMaps.{AllowedMap, AllowedUnmap, mapped, removing, removed}
 use Rattle.pl_history.specs.Making.{AllowedCreate, AllowedFork, AllowedGrant, building, forking, made, sealed, made_faulted, granted}
 use Rattle.pl_history.specs.Monitor.{Monitor, opening, script_of, line_count}
@@ -76,7 +75,7 @@ Allowed setup bytes s before entry =
 -- What the answers to a hart's line change. A refusal changes nothing, but that one after Begun stops the making of a number.
 abbrev pub changes : Monitor → ℕ → Line → Bool → Changes
 changes s hart (Load va) begun = unchanged s
-changes s hart (Store va word) begun = record (unchanged s) { ok = stored s va word }
+changes s hart (Store va word) begun = record (unchanged s) { ok = host_stored s va word }
 changes s hart (Map va page perms) begun = record (unchanged s) { ok = mapped s va page perms }
 changes s hart (Unmap va) begun = record (unchanged s) { begun = removing s hart va; ok = removed s hart }
 changes s hart (Create e image pages) begun =
@@ -97,26 +96,20 @@ changes s hart (After actor count) begun = unchanged s
 abbrev pub after_answer : Monitor → ℕ → Line → Answer → Monitor
 after_answer s hart line now = progressed (change_by (changes s hart line (s.progress hart).begun) now) hart now
 
--- the bytes of a write are those that its answer names
-abbrev pub written_part : Monitor → List ℕ → Answer → Monitor
-written_part s part (answer_is.Wrote changed pa from len) = written s (record { address = pa; bytes = part }) changed
-written_part s part answer_is.Begun = s
-written_part s part answer_is.Ok = s
-written_part s part (answer_is.Value value) = s
-written_part s part (answer_is.Word word) = s
-written_part s part (answer_is.Left count why) = s
-written_part s part (answer_is.No cause) = s
-written_part s part (answer_is.Kept pa from len) = s
+-- what a write changes, by the bytes that its answer names
+abbrev pub writes : Monitor → List ℕ → Changes
+writes s part = record (unchanged s) { wrote = λ changed pa. written s (record { address = pa; bytes = part }) changed }
 
-abbrev pub attack_changes : Monitor → List ℕ → AttackLine → Answer → Monitor
-attack_changes s part (attack.Write pa new) now = written_part s part now
-attack_changes s part (attack.Keep name pa len) now = s
-attack_changes s part (attack.Back name) now = written_part s part now
-attack_changes s part (attack.After actor count) now = s
+-- what the answers to an attacker's line change
+abbrev pub attack_changes : Monitor → List ℕ → AttackLine → Changes
+attack_changes s part (attack.Write pa new) = writes s part
+attack_changes s part (attack.Keep name pa len) = unchanged s
+attack_changes s part (attack.Back name) = writes s part
+attack_changes s part (attack.After actor count) = unchanged s
 
 abbrev pub after_line : Monitor → ℕ → List ℕ → Answer → ActorLine → Monitor
 after_line s actor part now (of_hart line) = after_answer s actor line now
-after_line s actor part now (of_attacker line) = progressed (attack_changes s part line now) actor now
+after_line s actor part now (of_attacker line) = progressed (change_by (attack_changes s part line) now) actor now
 
 abbrev pub after : SetupParts → List ℕ → Monitor → Entry → Monitor
 after setup bytes s entry =

@@ -1,5 +1,4 @@
 pub mod Rules
-pub mod Space
 pub mod Protection
 pub mod Monitor
 pub mod NumberSpace
@@ -17,3 +16,16 @@ pub mod Waiting
 pub mod Legal
 pub mod Laws
 pub mod Text
+pub use Rattle.mem_geom.specs.Layout
+pub use Rattle.mem_geom.specs.PathPlaces
+pub use Rattle.mem_geom.specs.Ranges
+pub use Rattle.mon_tables.specs.Space
+pub use Rattle.pl_base.specs.Bytes
+pub use Rattle.pl_base.specs.Pages
+pub use Rattle.pl_base.specs.Refusals
+pub use Rattle.pl_base.specs.States
+pub use Rattle.mon_tables.specs.Space
+pub use Rattle.pl_io.specs.Puts
+pub use Rattle.rv_alone.specs.Alone
+pub use Rattle.rv_alone.specs.Flat
+pub use Rattle.rv_pmp.specs.Pmp

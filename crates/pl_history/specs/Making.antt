@@ -1,13 +1,13 @@
 -- Making enclaves: `create`, `shadow`, `fork` and `grant`.
-use Rattle.std.specs.Prelude.{ℕ, ◌+◌, ◌==◌, nat_lt, Bool, true, false, not, List, [], ◌∷◌, ◌++◌, length, count_by, find, Option, Some, option_map, slice_get}
+use Rattle.std.specs.Prelude.{ℕ, ◌+◌, ◌==◌, nat_lt, Bool, true, not, List, [], ◌∷◌, ◌++◌, length, find, Option, Some, option_map, slice_get}
 use Rattle.std.specs.Option.{option_map_or}
-use Rattle.pl_base.specs.declared.number.EncNo.{EncNo}
 use Rattle.pl_base.specs.declared.refusal.No.{No}
-use Rattle.pl_base.specs.declared.refusal.No.TheVariants.{Exists, Count, Twice, NotYours, StillMapped, NoEnclave, WrongState, TooMany}
-use Rattle.pl_base.specs.declared.state.State.{State}
+use Rattle.pl_base.specs.declared.refusal.No.TheVariants.{Exists, Count, Twice, NotYours, StillMapped, Barred, NoEnclave, WrongState, TooMany}
 use Rattle.pl_base.specs.declared.state.State.TheVariants as state_is
 use Rattle.pl_base.specs.Refusals.{refuse, first_refusal}
-use Rattle.pl_base.specs.States.{is_free, is_absent}
+use Rattle.pl_base.specs.Pages.{first_twice, most_spares}
+use Rattle.pl_base.specs.States.{is_free, is_absent, is_sealed, is_under_way}
+use Rattle.rv_pmp.specs.Pmp.{page_allowed}
 use Rattle.pl_history.specs.declared.answer.Answer.{Answer}
 use Rattle.pl_history.specs.declared.answer.Answer.TheVariants as answer_is
 use Rattle.pl_history.specs.declared.line.Line.{Line}
@@ -15,32 +15,13 @@ use Rattle.pl_history.specs.declared.setup.SetupParts.{SetupParts}
 use Rattle.pl_history.specs.Answering.{AtOnce, Begins, EndsDoneOrFaulted}
 use Rattle.pl_history.specs.Licence.{Licensed}
 use Rattle.pl_history.specs.Monitor.{number, Monitor, is_host, maps_of, freed, with_number, with_owner}
+use Rattle.pl_history.specs.Protection.{pmp_of}
 
 -- ---- the refusals
 
 -- how many pages an image has
-abbrev pub page_count : SetupParts → ℕ → ℕ
-page_count setup image = option_map_or (λ i. length i.pages) (slice_get setup.images image) 0
-
--- a number is sealed: forks may share its pages
-abbrev pub is_sealed : State → Bool
-is_sealed state_is.Sealed = true
-is_sealed _ = false
-
--- on, building or dying: a line has the number under way
-abbrev pub is_under_way : State → Bool
-is_under_way state_is.On = true
-is_under_way state_is.Building = true
-is_under_way state_is.Dying = true
-is_under_way _ = false
-
--- how many spares a number may be given since it was made
-abbrev pub most_spares : ℕ
-most_spares = 256
-
--- the first page in a list that stands in it more than once
-abbrev pub first_twice : List ℕ → Option ℕ
-first_twice pages = find (λ page. nat_lt 1 (count_by (λ other. other == page) pages)) pages
+abbrev pub image_page_count : SetupParts → ℕ → ℕ
+image_page_count setup image = option_map_or (λ i. length i.pages) (slice_get setup.images image) 0
 
 -- the first page in a list that isn't the host's
 abbrev pub first_not_host : Monitor → List ℕ → Option ℕ
@@ -50,17 +31,21 @@ first_not_host s pages = find (λ page. not (is_host (s.owner page))) pages
 abbrev pub first_mapped : Monitor → List ℕ → Option ℕ
 first_mapped s pages = find (λ page. nat_lt 0 (maps_of s page)) pages
 
+-- the first page in a list that the protection entries don't leave open
+abbrev pub first_barred : SetupParts → List ℕ → Option ℕ
+first_barred setup pages = find (λ page. not (page_allowed (pmp_of setup) page)) pages
+
 -- why these pages can't be taken, one cause over the whole list and then the next: one isn't the host's, one is mapped, one is barred
 abbrev pub page_refusals : SetupParts → Monitor → List ℕ → List (Option No)
 page_refusals setup s pages =
-    option_map NotYours (first_not_host s pages) ∷ option_map StillMapped (first_mapped s pages) ∷ []
+    option_map NotYours (first_not_host s pages) ∷ option_map StillMapped (first_mapped s pages) ∷ option_map Barred (first_barred setup pages) ∷ []
 
 -- why a number can't be made of an image and these pages: it isn't free, the list has another length than the image, a page stands in
 -- it twice, a page can't be taken
 abbrev pub create_refusal : SetupParts → Monitor → ℕ → ℕ → List ℕ → Option No
 create_refusal setup s e image pages = first_refusal (
     refuse (not (is_free (s.number e).state)) Exists
-    ∷ refuse (not (length pages == page_count setup image)) Count
+    ∷ refuse (not (length pages == image_page_count setup image)) Count
     ∷ option_map Twice (first_twice pages)
     ∷ page_refusals setup s pages)
 

@@ -10,7 +10,7 @@ use Rattle.rv_alone.specs.Flat as flat
 use Rattle.pl_history.specs.declared.line.Line.{Line}
 use Rattle.pl_history.specs.declared.setup.SetupParts.{SetupParts}
 use Rattle.pl_history.specs.Rules.{guarded_of, pages_of}
-use Rattle.pl_history.specs.Space.{Mapping, count_of_page}
+use Rattle.mon_tables.specs.Space.{Mapping, count_of_page}
 
 pub data Owner : Type 0 where
   guard : Owner
@@ -67,8 +67,8 @@ abbrev pub freed : Number → Number
 freed n = record n { state = Free; live = false; pages = []; spares = []; parent = None; sent = []; taken = 0; retired = 0 }
 
 -- all pages that a number took from the host
-abbrev pub held : Number → List ℕ
-held n = n.pages ++ n.spares
+abbrev pub pages_taken : Number → List ℕ
+pages_taken n = n.pages ++ n.spares
 
 abbrev pub is_host : Option Owner → Bool
 is_host (Some host) = true

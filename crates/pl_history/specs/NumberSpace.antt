@@ -5,7 +5,7 @@ use Rattle.pl_base.specs.declared.perms.Perms.{Perms}
 use Rattle.rv_alone.specs.Flat.{Image, Page}
 use Rattle.pl_history.specs.declared.setup.SetupParts.{SetupParts}
 use Rattle.pl_history.specs.Monitor.{Number, image_at}
-use Rattle.pl_history.specs.Space.{Mapping, without_write}
+use Rattle.mon_tables.specs.Space.{Mapping, without_write}
 
 -- the first place of a page of the image in a list
 abbrev pub place_in : ℕ → List ℕ → Option ℕ
@@ -33,6 +33,6 @@ mappings_from number n broken at (page ∷ pages) =
 
 -- The space of a number, which has broken these pages of its image so far, in order. A number that isn't live has none: one that is
 -- free, building, sealed or dying, or was stopped by a fault while it was made.
-abbrev pub space_of : SetupParts → (ℕ → Number) → Number → List ℕ → List Mapping
-space_of setup number n broken =
+abbrev pub mappings_of_number : SetupParts → (ℕ → Number) → Number → List ℕ → List Mapping
+mappings_of_number setup number n broken =
     if n.live then option_map_or (λ (image : Image). mappings_from number n broken 0 image.pages) (image_at setup n.image) [] else []

@@ -8,8 +8,8 @@ use Rattle.pl_history.specs.declared.setup.SetupParts.{SetupParts}
 use Rattle.pl_history.specs.Rules.{guarded_of, pages_of}
 
 -- an entry with this configuration whose register holds bits 55:2 of an address
-abbrev pub entry_at : ℕ → ℕ → Rule
-entry_at cfg address = record { cfg = cfg; addr = address / 4 }
+abbrev pub rule_at : ℕ → ℕ → Rule
+rule_at cfg address = record { cfg = cfg; addr = address / 4 }
 
 -- the configurations OFF, TOR with R, and TOR with R, W and X
 abbrev pub off : ℕ
@@ -23,12 +23,12 @@ up_to_open = 15
 
 -- the entry that a setup has for a number; OFF with the register 0 where it has none
 abbrev pub entry_of_setup : List (ℕ × Rule) → ℕ → Rule
-entry_of_setup entries number = option_map_or (λ (entry : ℕ × Rule). entry.1) (find (λ (entry : ℕ × Rule). entry.0 == number) entries) (entry_at off 0)
+entry_of_setup entries number = option_map_or (λ (entry : ℕ × Rule). entry.1) (find (λ (entry : ℕ × Rule). entry.0 == number) entries) (rule_at off 0)
 
 -- Entries 0 and 1 let the guarded pages be read, and entries 13 and 14 leave the pages after them open up to the last zone's end;
 -- entries 2 to 12 are the setup's; entry 15 is OFF.
-abbrev pub protection_of : SetupParts → List Rule
-protection_of setup =
-    entry_at off (page_start 0) ∷ entry_at up_to_readable (page_start (guarded_of setup.tables setup.enclaves))
+abbrev pub pmp_of : SetupParts → List Rule
+pmp_of setup =
+    rule_at off (page_start 0) ∷ rule_at up_to_readable (page_start (guarded_of setup.tables setup.enclaves))
     ∷ (map (entry_of_setup setup.pmp) (range_with_len 2 11)
-    ++ (entry_at off (page_start 0) ∷ entry_at up_to_open (page_start (pages_of setup.zones)) ∷ entry_at off 0 ∷ []))
+    ++ (rule_at off (page_start 0) ∷ rule_at up_to_open (page_start (pages_of setup.zones)) ∷ rule_at off 0 ∷ []))

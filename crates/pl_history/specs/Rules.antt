@@ -3,7 +3,9 @@ use Rattle.std.specs.Prelude.{◌≡◌, ℕ, ◌+◌, ◌*◌, ◌%◌, ◌==�
 use Rattle.std.specs.List.{list_all}
 use Rattle.std.specs.Option.{option_map_or}
 use Rattle.std.specs.Str.{bytes_eq}
+use Rattle.pl_base.specs.Perms.{are_page_perms}
 use Rattle.pl_base.specs.declared.actor.Actor.{Actor}
+use Rattle.pl_base.specs.declared.page.TheConstants.{IMAGE_START}
 use Rattle.pl_base.specs.declared.actor.Actor.TheVariants.{Hart, Ack, Attacker}
 use Rattle.mon_image.specs.declared.page.ImagePage.{ImagePage}
 use Rattle.mon_image.specs.declared.image.Image.{Image}
@@ -46,16 +48,12 @@ is_actor harts Attacker = true
 
 -- ---- images
 
--- `r`, `rw`, `rx` and `rwx`
-abbrev pub are_perms : ℕ → Bool
-are_perms bits = bits == 1 || (bits == 3 || (bits == 5 || bits == 7))
-
 abbrev pub is_page : ImagePage → Bool
-is_page page = are_perms page.perms.0 && length page.bytes == 4096
+is_page page = are_page_perms page.perms && length page.bytes == 4096
 
--- an entry is a multiple of 4 in the image, whose page i stands at 0x10000 + 4096·i
+-- an entry is a multiple of 4 in the image, whose page i stands at IMAGE_START + 4096·i
 abbrev pub is_entry : ℕ → ℕ → Bool
-is_entry pages entry = entry % 4 == 0 && (nat_le 0x10000 entry && nat_lt entry (0x10000 + 4096 * pages))
+is_entry pages entry = entry % 4 == 0 && (nat_le IMAGE_START entry && nat_lt entry (IMAGE_START + 4096 * pages))
 
 abbrev pub is_image : Image → Bool
 is_image image = is_entry (length image.pages) image.entry && (is_within 1 256 (length image.pages) && list_all is_page image.pages)
@@ -67,13 +65,21 @@ abbrev pub is_page_list : List ℕ → Bool
 is_page_list pages = nat_le (length pages) 512
 
 abbrev pub is_line : Line → Bool
-is_line (line.Map va page perms) = are_perms perms.0
+is_line (line.Load va) = true
+is_line (line.Store va word) = true
+is_line (line.Map va page perms) = are_page_perms perms
+is_line (line.Unmap va) = true
 is_line (line.Create e image pages) = is_page_list pages
 is_line (line.Shadow e image pages) = is_page_list pages
 is_line (line.Fork s e pages) = is_page_list pages
+is_line (line.Grant e page) = true
 is_line (line.Run e budget) = nat_le 1 budget
 is_line (line.Resume e budget) = nat_le 1 budget
-is_line _ = true
+is_line (line.Send e word) = true
+is_line (line.Take e) = true
+is_line (line.Destroy e) = true
+is_line (line.Drop s) = true
+is_line (line.After actor count) = true
 
 -- a to z, and 0 to 9
 abbrev pub is_name_character : ℕ → Bool
@@ -92,6 +98,10 @@ is_attack_line (attack.After actor count) = true
 
 -- each enclave number is below E, and the image is there
 abbrev pub names_known : ℕ → ℕ → Line → Bool
+names_known enclaves images (line.Load va) = true
+names_known enclaves images (line.Store va word) = true
+names_known enclaves images (line.Map va page perms) = true
+names_known enclaves images (line.Unmap va) = true
 names_known enclaves images (line.Create e image pages) = nat_lt e.0 enclaves && nat_lt image images
 names_known enclaves images (line.Shadow e image pages) = nat_lt e.0 enclaves && nat_lt image images
 names_known enclaves images (line.Fork s e pages) = nat_lt s.0 enclaves && nat_lt e.0 enclaves
@@ -102,7 +112,7 @@ names_known enclaves images (line.Send e word) = nat_lt e.0 enclaves
 names_known enclaves images (line.Take e) = nat_lt e.0 enclaves
 names_known enclaves images (line.Destroy e) = nat_lt e.0 enclaves
 names_known enclaves images (line.Drop s) = nat_lt s.0 enclaves
-names_known enclaves images _ = true
+names_known enclaves images (line.After actor count) = true
 
 -- ---- what a line waits for, and the attacker's places
 

@@ -1,4 +1,4 @@
--- The printed text of a history and of its report. Each answer's text goes on to the end of its line.
+-- The printed text of a history and of its report. An answer's text goes on to the end of its line.
 use Rattle.std.specs.Prelude.{ℕ, ◌+◌, ◌==◌, Bool, if◌then◌else◌, List, [], ◌∷◌, ◌++◌, codes, decimal}
 use Rattle.std.specs.List.{flat_map, slice_range}
 use Rattle.pl_base.specs.declared.place.Place.{Place}
@@ -26,10 +26,11 @@ last_decimal n = decimal n ++ line_end
 abbrev pub actor_text : ℕ → ℕ → List ℕ
 actor_text harts actor = if actor == harts then codes "x" else codes "h" ++ decimal actor
 
+-- a place, without the end of a line
 abbrev pub place_text : Place → List ℕ
-place_text (Block page block) = codes "block " ++ (decimal page ++ (codes " " ++ last_decimal block))
-place_text (Node level zone index) = codes "node " ++ (decimal level ++ (codes " " ++ (decimal zone ++ (codes " " ++ last_decimal index))))
-place_text (RootNode level index) = codes "root-node " ++ (decimal level ++ (codes " " ++ last_decimal index))
+place_text (Block page block) = codes "block " ++ (decimal page ++ (codes " " ++ decimal block))
+place_text (Node level zone index) = codes "node " ++ (decimal level ++ (codes " " ++ (decimal zone ++ (codes " " ++ decimal index))))
+place_text (RootNode level index) = codes "root-node " ++ (decimal level ++ (codes " " ++ decimal index))
 
 abbrev pub state_text : State → List ℕ
 state_text state_is.Free = codes "free"
@@ -50,14 +51,14 @@ why_text why_is.Waiting = codes "waiting" ++ line_end
 why_text why_is.OutFull = codes "out-full" ++ line_end
 why_text why_is.NeedPage = codes "need-page" ++ line_end
 why_text (why_is.Trapped cause value) = codes "trapped " ++ (decimal cause ++ (codes " " ++ (hex_text value ++ line_end)))
-why_text (why_is.Fault place) = codes "fault " ++ place_text place
+why_text (why_is.Fault place) = codes "fault " ++ (place_text place ++ line_end)
 
 -- the number and the name of a refusal, and what it names
 abbrev pub refusal_text : No → List ℕ
 refusal_text Misaligned = codes "2 misaligned" ++ line_end
 refusal_text PageFault = codes "3 page-fault" ++ line_end
 refusal_text AccessFault = codes "4 access-fault" ++ line_end
-refusal_text (Fault place) = codes "5 fault " ++ place_text place
+refusal_text (Fault place) = codes "5 fault " ++ (place_text place ++ line_end)
 refusal_text BadAddress = codes "6 bad-address" ++ line_end
 refusal_text Busy = codes "7 busy" ++ line_end
 refusal_text Mapped = codes "8 mapped" ++ line_end

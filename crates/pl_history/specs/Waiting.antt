@@ -1,5 +1,5 @@
 -- Waiting for another actor: `after`, of a hart and of the attacker.
-use Rattle.std.specs.Prelude.{◌≤◌, ℕ, Bool, true, false}
+use Rattle.std.specs.Prelude.{◌≤◌, ℕ, Bool, false}
 use Rattle.pl_history.specs.declared.answer.Answer.{Answer}
 use Rattle.pl_history.specs.declared.answer.Answer.TheVariants as answer_is
 use Rattle.pl_history.specs.Monitor.{Monitor}

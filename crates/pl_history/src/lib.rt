@@ -5,13 +5,16 @@ mod answer;
 mod history;
 mod laws;
 mod line;
+mod pages;
 mod printing;
+mod protection;
 mod setup;
 
 pub use answer::{Answer, Entry};
 pub use history::History;
 pub use laws::{added_bytes_leave_histories, histories_grow_by_entries};
 pub use line::{AttackLine, Line};
+pub use pages::{all_pages, guarded_pages};
 pub use printing::{put_done, put_entry, put_history, put_output};
 pub use setup::{ChoiceName, Setup, SetupParts};
 

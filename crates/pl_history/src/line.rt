@@ -41,7 +41,7 @@ pub enum Line {
         e: EncNo,
         pages: Listed<u32>,
     },
-    /// Gives a forked enclave one more spare page.
+    /// Gives an enclave one more spare page.
     Grant {
         e: EncNo,
         page: u32,

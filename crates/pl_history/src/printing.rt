@@ -31,6 +31,7 @@ fn put_last<K: Sink>(sink: &mut K, name: &[u8], number: u32) -> Result<(), Faile
     )
 }
 
+// A place, without the end of the line.
 fn put_place<K: Sink>(sink: &mut K, place: &Place) -> Result<(), Failed>
     ensures { Puts (K.written sink.old) (K.written sink.new) (K.faults sink.old) (K.faults sink.new) (place_text place.now) result }
 {
@@ -42,7 +43,6 @@ fn put_place<K: Sink>(sink: &mut K, place: &Place) -> Result<(), Failed>
                 Piece::Dec(u64::from(page)),
                 Piece::Text(b" "),
                 Piece::Dec(u64::from(block)),
-                Piece::Text(b"\n"),
             ],
         ),
         Place::Node { level, zone, index } => put_pieces(
@@ -54,7 +54,6 @@ fn put_place<K: Sink>(sink: &mut K, place: &Place) -> Result<(), Failed>
                 Piece::Dec(u64::from(zone)),
                 Piece::Text(b" "),
                 Piece::Dec(u64::from(index)),
-                Piece::Text(b"\n"),
             ],
         ),
         Place::RootNode { level, index } => put_pieces(
@@ -64,10 +63,17 @@ fn put_place<K: Sink>(sink: &mut K, place: &Place) -> Result<(), Failed>
                 Piece::Dec(u64::from(level)),
                 Piece::Text(b" "),
                 Piece::Dec(u64::from(index)),
-                Piece::Text(b"\n"),
             ],
         ),
     }
+}
+
+// A place, and the end of the line.
+fn put_last_place<K: Sink>(sink: &mut K, place: &Place) -> Result<(), Failed>
+    ensures { Puts (K.written sink.old) (K.written sink.new) (K.faults sink.old) (K.faults sink.new) (place_text place.now ++ line_end) result }
+{
+    put_place(sink, place)?;
+    put_text(sink, b"\n")
 }
 
 fn state_name(state: &State) -> &'static [u8]
@@ -87,12 +93,12 @@ fn state_name(state: &State) -> &'static [u8]
     }
 }
 
-// A name, and then a place.
+// A name, a place, and the end of the line.
 fn put_named_place<K: Sink>(sink: &mut K, name: &[u8], place: &Place) -> Result<(), Failed>
-    ensures { Puts (K.written sink.old) (K.written sink.new) (K.faults sink.old) (K.faults sink.new) (name.now ++ place_text place.now) result }
+    ensures { Puts (K.written sink.old) (K.written sink.new) (K.faults sink.old) (K.faults sink.new) (name.now ++ (place_text place.now ++ line_end)) result }
 {
     put_text(sink, name)?;
-    put_place(sink, place)
+    put_last_place(sink, place)
 }
 
 fn put_why<K: Sink>(sink: &mut K, why: &Why) -> Result<(), Failed>

@@ -25,6 +25,7 @@ impl<R> Model for StdSource<R> {
 }
 
 impl<R: Read> StdSource<R> {
+    /// A source that reads from this reader; no read failed yet.
     pub fn new(from: R) -> StdSource<R>
         ensures { result ≡ 0 }
     {
@@ -69,6 +70,7 @@ impl<W> Model for StdSink<W> {
 }
 
 impl<W: Write> StdSink<W> {
+    /// A sink that writes to this writer; no write failed yet.
     pub fn new(to: W) -> StdSink<W>
         ensures { result ≡ 0 }
     {

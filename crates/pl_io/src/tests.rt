@@ -1,3 +1,4 @@
+// Texts of numbers, sources and sinks in memory, and what their calls gave.
 use crate::{
     Failed, MemSink, MemSource, Piece, ReadAll, Sink, Source, StdSink, StdSource, put_bytes,
     put_dec, put_hex, put_pieces, put_short, read_all, read_dec, read_hex,

@@ -16,7 +16,7 @@ use Rattle.pl_base.specs.Perms.{grants}
 use Rattle.rv_alone.specs.declared.step.Act.{Act}
 use Rattle.rv_alone.specs.declared.step.Act.TheVariants.{Set, Load, Store, Call, Trap}
 use Rattle.rv_alone.specs.Effect.{act_of, advanced, loaded}
-use Rattle.rv_alone.specs.Flat.{Image, Flat, Page, Status, on, ended, fetched, read, permitted, page_at, page_number, with_number, start_of}
+use Rattle.rv_alone.specs.Flat.{Image, Flat, Page, Status, on, ended, fetched, read, permitted, page_at, page_number, page_with_number, start_of}
 use Rattle.rv_alone.specs.Alone.{Outcome, next, trap, wait, full, next_of, context_of, with_context, acts, loads, stores, calls, receives, sends, exits, runs, advance_by, alone, page_of_act, page_written, with_page, written_pages}
 use Rattle.rv_alone.proofs.Later.{sent_later}
 use Rattle.rv_alone.specs.Laws.{PermissionsStay, UnwrittenStay, WrittenOnce, WrittenWritable}
@@ -52,14 +52,14 @@ loaded_pages a b address width is_signed rd None e = cc
 loaded_pages a b address width is_signed rd (Some raw) e = let h : with_context a (loaded (context_of a) rd width is_signed raw) ≡ b = cc in ap (λ (x : Flat). x.pages) (sym h)
 
 stored_pages : (a b : Flat) (address width value : ℕ) (page : Option Page) → permitted kind.Store a.pages address ≡ page
-    → next_of (stores a address (option_map (λ (x : Page). set a.pages (page_number address) (with_number width address value x)) page)) ≡ Some b
+    → next_of (stores a address (option_map (λ (x : Page). set a.pages (page_number address) (page_with_number width address value x)) page)) ≡ Some b
     → StepsPages a.pages b.pages (option_map (λ (x : Page). page_number address) page)
 stored_pages a b address width value None p e = cc
 stored_pages a b address width value (Some page) p e =
-    let pages = set a.pages (page_number address) (with_number width address value page) in
+    let pages = set a.pages (page_number address) (page_with_number width address value page) in
     let h : record (with_context a (advanced (context_of a))) { pages = pages } ≡ b = cc in
     let is = permitted_is kind.Store a.pages address page p in
-    (page, (with_number width address value page).bytes, is.0, is.1, ap (λ (x : Flat). x.pages) (sym h))
+    (page, (page_with_number width address value page).bytes, is.0, is.1, ap (λ (x : Flat). x.pages) (sym h))
 
 -- a call leaves the pages alone
 abbrev KeepsPages : Flat → Outcome → Type 0

@@ -62,8 +62,8 @@ abbrev pub number_in : ℕ → ℕ → Page → ℕ
 number_in width address page = little_number width (bytes_at page.bytes (address % 4096) width)
 
 -- the page with the lowest bytes of a value there
-abbrev pub with_number : ℕ → ℕ → ℕ → Page → Page
-with_number width address value page = record page { bytes = with_bytes page.bytes (address % 4096) (little_bytes width value) }
+abbrev pub page_with_number : ℕ → ℕ → ℕ → Page → Page
+page_with_number width address value page = record page { bytes = with_bytes page.bytes (address % 4096) (little_bytes width value) }
 
 -- the word of 32 bits that is fetched from an address
 abbrev pub fetched : List Page → ℕ → Option ℕ
@@ -75,4 +75,4 @@ read pages address width = option_map (number_in width address) (permitted Load 
 
 -- the pages after a store of so many bytes
 abbrev pub stored : List Page → ℕ → ℕ → ℕ → Option (List Page)
-stored pages address width value = option_map (λ (page : Page). slice_set pages (page_number address) (with_number width address value page)) (permitted Store pages address)
+stored pages address width value = option_map (λ (page : Page). slice_set pages (page_number address) (page_with_number width address value page)) (permitted Store pages address)

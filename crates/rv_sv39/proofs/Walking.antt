@@ -1,15 +1,15 @@
 -- Steps give the walk, and a walk has one answer.
-use Rattle.std.proofs.Common.{◌≡◌, ℕ, zero, suc, Bool, true, false, ◌&&◌, ◌||◌, not, cond, ◌==◌, Option, Some, None, option_and_then, ◌↔◌, inl, inr, refl, sym, ap, ◌∙◌, subst}
-use Rattle.std.proofs.Common.{⊎_elim}
-use Rattle.std.proofs.lemmas.Bool.{cases_Bool, cond-true, cond-false, eqb-true, false≢true, and_right}
+use Rattle.std.proofs.Common.{◌≡◌, ℕ, zero, suc, ◌-◌, Bool, true, false, ◌&&◌, ◌||◌, not, cond, ◌==◌, Option, Some, None, option_and_then, ◌↔◌, inl, inr, refl, sym, ap, ◌∙◌, subst, ⊎_elim, arith}
+use Rattle.std.proofs.lemmas.Bool.{cases_Bool, cond-true, cond-false, eqb-true, eqb-false, false≢true, and_right}
 use Rattle.pl_base.specs.Perms.{grants}
+use Rattle.pl_base.specs.declared.perms.Perms.{Perms}
 use Rattle.pl_base.specs.declared.access.Kind.{Kind}
 use Rattle.pl_base.specs.declared.access.Mode.{Mode}
 use Rattle.pl_base.specs.declared.address.Ppn.{Ppn}
 use Rattle.pl_base.specs.declared.address.Vpn.{Vpn}
-use Rattle.rv_sv39.specs.Step.{step}
-use Rattle.rv_sv39.specs.Walk.{leads_on, translates, Answer, entry, next_table, table_at, WalksFrom, ends, leads, breaks, answer_of, steps_from}
-use Rattle.rv_sv39.specs.Word.{is_readable, is_executable, is_user, is_accessed, is_dirty, ppn_of, perms_of, is_valid_entry, is_accessible, is_aligned, has_a_and_d, page_of}
+use Rattle.rv_sv39.specs.Step.{step, FitsAccess, StepsFit}
+use Rattle.rv_sv39.specs.Walk.{leads_on, translates, Answer, entry, next_table, table_at, WalksFrom, ends, leads, breaks, answer_of, steps_from, SaysOfWalk}
+use Rattle.rv_sv39.specs.Word.{is_readable, is_executable, is_user, is_accessed, is_dirty, ppn_of, perms_of, is_valid_entry, is_pointer, is_accessible, is_aligned, has_a_and_d, page_of}
 use Rattle.rv_sv39.specs.declared.walk.Walked.{Walked}
 use Rattle.rv_sv39.specs.declared.walk.Walked.TheVariants.{Next, Leaf, PageFault}
 
@@ -36,6 +36,32 @@ in_any_order true true x u a d lowest true false permitted accessed next leaf fa
 in_any_order true true x u a d lowest true true false accessed next leaf fault = refl
 in_any_order true true x u a d lowest true true true false next leaf fault = refl
 in_any_order true true x u a d lowest true true true true next leaf fault = refl
+
+-- what a step answers fits the access, whatever the tests before it say
+fits_in_order : (level : ℕ) (kind : Kind) (valid pointer barred aligned accessible accessed : Bool) (next ppn : Ppn) (perms : Perms)
+    → FitsAccess level kind (cond (not valid) PageFault (cond pointer (cond (barred || level == 0) PageFault (Next next))
+    (cond (not aligned) PageFault (cond (not accessible) PageFault (cond (not (grants perms kind)) PageFault (cond (not accessed) PageFault (Leaf ppn perms)))))))
+fits_in_order level kind false pointer barred aligned accessible accessed next ppn perms = tt
+fits_in_order level kind true true true aligned accessible accessed next ppn perms = tt
+fits_in_order level kind true true false aligned accessible accessed next ppn perms = elim (cases_Bool (level == 0)) [
+  | inl lowest ↦ rw lowest tt
+  | inr above ↦ rw above (omega (arith, eqb-false level 0 above))
+]
+fits_in_order level kind true false barred false accessible accessed next ppn perms = tt
+fits_in_order level kind true false barred true false accessed next ppn perms = tt
+fits_in_order level kind true false barred true true accessed next ppn perms = elim (cases_Bool (grants perms kind)) [
+  | inl permitted ↦ rw permitted (of_last accessed permitted)
+  | inr not_permitted ↦ rw not_permitted tt
+]
+  where
+    of_last : (accessed : Bool) → grants perms kind ≡ true → FitsAccess level kind (cond (not accessed) PageFault (Leaf ppn perms))
+    of_last true permitted = permitted
+    of_last false permitted = tt
+
+pub steps_fit : StepsFit
+steps_fit level word vpn kind mode =
+    fits_in_order level kind (is_valid_entry word) (is_pointer word) ((is_user word || is_accessed word) || is_dirty word)
+    (is_aligned level word) (is_accessible word mode) (has_a_and_d word kind) (record { 0 = ppn_of word }) (page_of level word vpn) (perms_of word)
 
 -- a word is not a pointer and a leaf
 apart : (valid r x u a d above aligned accessible permitted accessed : Bool)
@@ -168,3 +194,46 @@ module _ (words : ℕ → ℕ) (vpn : Vpn) (mode : Mode) (kind : Kind) where
         λ walk. walk_from 2 root.0 a (walk_is level table a walk ∙ same),
         λ walk. walk_from level table a (walk_is 2 root.0 a walk ∙ sym same),
       )
+
+  -- the next table is the one of the level below
+  abbrev LeadsBelow : Ppn → ℕ → ℕ → Type 0
+  LeadsBelow root table level =
+      leads_on level (entry words vpn level table) ≡ true → table_at words root vpn (level - 1) ≡ Some (ppn_of (entry words vpn level table))
+
+  leads_from_root : (root : Ppn) (table : ℕ) → root.0 ≡ table → LeadsBelow root table 2
+  leads_from_root root table same = subst (λ t. LeadsBelow root t 2) same (λ leads_there. cond-true _ _ _ leads_there)
+
+  leads_from_middle : (root : Ppn) (table : ℕ) → next_table words vpn 2 root.0 ≡ Some table → LeadsBelow root table 1
+  leads_from_middle root table is leads_there = ap (option_and_then (next_table words vpn 1)) is ∙ cond-true _ _ _ leads_there
+
+  leads_below : (root : Ppn) (level table : ℕ) → table_at words root vpn level ≡ Some table → LeadsBelow root table level
+  leads_below root level table is = elim (cases_Bool (level == 2)) [
+    | inl top ↦ (let same : Some root.0 ≡ Some table = sym (cond-true _ _ _ top) ∙ is in
+        subst (LeadsBelow root table) (sym (eqb-true level 2 top)) (leads_from_root root table (cc)))
+    | inr below_top ↦ elim (cases_Bool (level == 1)) [
+      | inl middle ↦
+          subst (LeadsBelow root table) (sym (eqb-true level 1 middle))
+          (leads_from_middle root table (sym (cond-true _ _ _ middle) ∙ (sym (cond-false _ _ _ below_top) ∙ is)))
+      | inr below_middle ↦ elim (cases_Bool (level == 0)) [
+        | inl bottom ↦
+            subst (LeadsBelow root table) (sym (eqb-true level 0 bottom))
+            (λ leads_there. absurd (false≢true (sym (lowest (entry words vpn 0 table)) ∙ leads_there)))
+        | inr nowhere ↦ absurd (let h : None ≡ Some table = sym (cond-false _ _ _ nowhere) ∙ (sym (cond-false _ _ _ below_middle) ∙ (sym (cond-false _ _ _ below_top) ∙ is)) in cc)
+      ]
+    ]
+  ]
+
+  pub steps_say : (root : Ppn) (level table : ℕ) → table_at words root vpn level ≡ Some table
+      → SaysOfWalk words root vpn mode kind level (step level (entry words vpn level table) vpn kind mode)
+  steps_say root level table is =
+      let word : ℕ = entry words vpn level table in
+      let P : Walked → Type 0 = SaysOfWalk words root vpn mode kind level in
+      ⊎_elim
+      (λ (pointer : leads_on level word ≡ true). subst P (sym (step_pointer level word vpn kind mode pointer)) (leads_below root level table is pointer))
+      (λ (pointer : leads_on level word ≡ false). ⊎_elim
+      (λ (leaf : translates level word kind mode ≡ true).
+      subst P (sym (step_leaf level word vpn kind mode leaf)) ((walks_onward root level table (Some (page_of level word vpn, perms_of word)) is).0 (ends level table leaf)))
+      (λ (leaf : translates level word kind mode ≡ false).
+      subst P (sym (step_fault level word vpn kind mode pointer leaf)) ((walks_onward root level table None is).0 (breaks level table pointer leaf)))
+      (cases_Bool (translates level word kind mode)))
+      (cases_Bool (leads_on level word))

@@ -1,5 +1,5 @@
 -- What one word of a table says (RISC-V Privileged Architecture, Virtual Address Translation Process).
-use Rattle.std.specs.Prelude.{ℕ, ◌==◌, ◌||◌, not, if◌then◌else◌}
+use Rattle.std.specs.Prelude.{ℕ, ◌<◌, ◌==◌, IsTrue, ◌||◌, not, if◌then◌else◌}
 use Rattle.pl_base.specs.Address.{IsPpn}
 use Rattle.pl_base.specs.Perms.{grants}
 use Rattle.pl_base.specs.declared.access.Kind.{Kind}
@@ -22,6 +22,16 @@ step level word vpn kind mode =
     else (if not (grants (perms_of word) kind) then PageFault
     else (if not (has_a_and_d word kind) then PageFault
     else Leaf (page_of level word vpn) (perms_of word))))))
+
+-- a pointer stands above level 0, and a leaf permits the kind
+abbrev pub FitsAccess : ℕ → Kind → Walked → Type 0
+FitsAccess level kind (Next ppn) = 0 < level
+FitsAccess level kind (Leaf ppn perms) = IsTrue (grants perms kind)
+FitsAccess level kind PageFault = Unit {0}
+
+-- each step's answer does
+abbrev pub StepsFit : Type 0
+StepsFit = (level word : ℕ) (vpn : Vpn) (kind : Kind) (mode : Mode) → FitsAccess level kind (step level word vpn kind mode)
 
 -- the page that a step gives has a number that a table word can hold
 abbrev pub GivesPpn : Walked → Type 0

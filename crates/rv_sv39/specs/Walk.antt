@@ -1,5 +1,5 @@
 -- The page walk as a relation (RISC-V Privileged Architecture, Virtual Address Translation Process, Sv39: three levels).
-use Rattle.std.specs.Prelude.{ℕ, zero, suc, ◌+◌, ◌*◌, ◌/◌, ◌%◌, ◌^◌, ◌≡◌, ◌↔◌, Bool, ◌==◌, IsTrue, IsFalse, ◌&&◌, ◌||◌, not, if◌then◌else◌, Option, Some, None, option_and_then}
+use Rattle.std.specs.Prelude.{ℕ, zero, suc, ◌+◌, ◌-◌, ◌*◌, ◌/◌, ◌%◌, ◌^◌, ◌≡◌, ◌↔◌, Bool, ◌==◌, IsTrue, IsFalse, ◌&&◌, ◌||◌, not, if◌then◌else◌, Option, Some, None, option_and_then}
 use Rattle.pl_base.specs.Perms.{grants}
 use Rattle.pl_base.specs.declared.access.Kind.{Kind}
 use Rattle.pl_base.specs.declared.access.Mode.{Mode}
@@ -97,3 +97,15 @@ WalksOnward =
     (words : ℕ → ℕ) (root : Ppn) (vpn : Vpn) (mode : Mode) (kind : Kind) (level table : ℕ) (answer : Answer)
     → table_at words root vpn level ≡ Some table
     → (WalksFrom words vpn mode kind level table answer ↔ Walks words root vpn mode kind answer)
+
+-- what a step at a level says of the walk: the table one level lower, or the answer
+abbrev pub SaysOfWalk : (ℕ → ℕ) → Ppn → Vpn → Mode → Kind → ℕ → Walked → Type 0
+SaysOfWalk words root vpn mode kind level (Next ppn) = table_at words root vpn (level - 1) ≡ Some ppn.0
+SaysOfWalk words root vpn mode kind level (Leaf ppn perms) = Walks words root vpn mode kind (Some (ppn, perms))
+SaysOfWalk words root vpn mode kind level PageFault = Walks words root vpn mode kind None
+
+-- each step does, at the table where the walk stands
+abbrev pub StepsSay : Type 0
+StepsSay =
+    (words : ℕ → ℕ) (root : Ppn) (vpn : Vpn) (mode : Mode) (kind : Kind) (level table : ℕ) → table_at words root vpn level ≡ Some table
+    → SaysOfWalk words root vpn mode kind level (step level (entry words vpn level table) vpn kind mode)

@@ -1,6 +1,6 @@
 ghost use Rattle.std.specs.Prelude.{◌≡◌, ◌<◌};
 ghost use Rattle.pl_base.specs.Address.{IsPpn};
-ghost use Rattle.rv_sv39.specs.Step.{step, GivesPpn};
+ghost use Rattle.rv_sv39.specs.Step.{step, FitsAccess, GivesPpn};
 ghost use Rattle.rv_sv39.specs.Walk.{entry_address};
 
 use crate::word::{
@@ -38,6 +38,7 @@ pub fn walk_step(level: u8, word: u64, vpn: Vpn, kind: Kind, mode: Mode) -> Walk
     requires { level < 3 }
     ensures step { result ≡ step level word vpn kind mode }
     ensures ppn { GivesPpn result }
+    ensures fits { FitsAccess level kind result }
 {
     if !is_valid_entry(word) {
         return Walked::PageFault;

@@ -1,5 +1,5 @@
 -- A hart's translations as a list, the oldest first.
-use Rattle.std.specs.Prelude.{◌≤◌, Bool, IsFalse, All, AllPairs, ◌==◌, ◌&&◌, List, length}
+use Rattle.std.specs.Prelude.{◌≤◌, Bool, IsFalse, All, AllPairs, ◌==◌, ◌&&◌, nat_lt, if◌then◌else◌, List, [], ◌∷◌, ◌++◌, length, drop}
 use Rattle.pl_base.specs.Address.{IsPpn}
 use Rattle.pl_base.specs.declared.address.Vpn.{Vpn}
 use Rattle.pl_base.specs.declared.number.Space.{Space}
@@ -20,6 +20,10 @@ Differ a b = IsFalse (is_of a.space a.vpn b)
 -- the entry's physical page number is one that a table word can hold
 abbrev pub HasPpn : TlbEntry → Type 0
 HasPpn entry = IsPpn entry.ppn
+
+-- the entries with one put last: the oldest drops out where there are sixteen
+abbrev pub with_entry : List TlbEntry → TlbEntry → List TlbEntry
+with_entry entries entry = (if nat_lt (length entries) 16 then entries else drop 1 entries) ++ entry ∷ []
 
 -- what a TLB holds: at most sixteen entries, no two of one space and page, each with a page number that a table word can hold
 pub record IsTlb (entries : List TlbEntry) : Type 0 where

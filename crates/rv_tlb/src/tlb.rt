@@ -1,4 +1,4 @@
-ghost use Rattle.std.specs.Prelude.{◌≡◌, ◌<◌, [], ◌∷◌, ◌++◌, drop, find, filter, not, length, IsNone, IfSome};
+ghost use Rattle.std.specs.Prelude.{◌≡◌, [], find, filter, not, IsNone, IfSome};
 
 use arrayvec::ArrayVec;
 use pl_base::{Perms, Ppn, Space, Vpn};
@@ -37,7 +37,7 @@ impl Model for Tlb {
 }
 
 impl Tlb {
-    ghost use Rattle.rv_tlb.specs.Tlb.{is_in, is_of, HasPpn, IsTlb};
+    ghost use Rattle.rv_tlb.specs.Tlb.{is_in, is_of, with_entry, HasPpn, IsTlb};
 
     /// No entry.
     pub fn new() -> Tlb
@@ -65,8 +65,7 @@ impl Tlb {
     pub fn put(&mut self, entry: TlbEntry)
         requires new { IsNone (find (is_of entry.space entry.vpn) self.old) }
         requires ppn { HasPpn entry }
-        ensures room { length self.old < 16 → self.new ≡ self.old ++ entry ∷ [] }
-        ensures full { length self.old ≡ 16 → self.new ≡ drop 1 self.old ++ entry ∷ [] }
+        ensures { self.new ≡ with_entry self.old entry }
     {
         if self.entries.is_full() {
             self.entries.remove(0);

@@ -1,5 +1,5 @@
 -- Accesses to an enclave's pages in memory are those of the flat machine.
-use Rattle.std.proofs.Common.{◌≡◌, ◌≢◌, ℕ, zero, suc, ◌<◌, ◌%◌, Bool, true, false, cond, leb, List, [], ◌∷◌, length, set, drop, Option, Some, None, option_and_then, slice_get, refl, ap, sym, ◌∙◌, subst, arith, unwrap_or, inl, inr, eqb, ◌||◌}
+use Rattle.std.proofs.Common.{◌≡◌, ◌≢◌, ℕ, zero, suc, ◌<◌, ◌%◌, Bool, true, false, cond, leb, List, [], ◌∷◌, length, set, Option, Some, None, option_and_then, slice_get, refl, ap, sym, ◌∙◌, subst, arith, unwrap_or, inl, inr, eqb, ◌||◌}
 use Rattle.std.specs.Option.{option_map}
 use Rattle.std.specs.List.{All}
 use Rattle.std.proofs.lemmas.Bool.{cases_Bool, false≢true}
@@ -12,7 +12,7 @@ use Rattle.pl_base.specs.Bytes.{bytes_at, with_bytes}
 use Rattle.pl_base.specs.declared.page.TheConstants.{IMAGE_START}
 use Rattle.pl_base.specs.Perms.{grants}
 use Rattle.mon_image.specs.declared.page.ImagePage.{ImagePage}
-use Rattle.rv_alone.specs.Flat.{Page, page_number, number_in, with_number, permitted, stored}
+use Rattle.rv_alone.specs.Flat.{Page, page_number, number_in, page_with_number, permitted, stored}
 use Rattle.pl_base.specs.Pages.{is_among}
 use Rattle.world_core.specs.Memory.{bytes_of}
 use Rattle.world_core.specs.Pages.{flat_pages, page_for, located, AreApart}
@@ -134,7 +134,7 @@ changed memory image numbers address width value n = flat_pages (set memory n (w
 
 stores : (memory : List (List ℕ)) (image : List ImagePage) (numbers : List ℕ) (width address value : ℕ) (t : Bool) (page : Option ImagePage) (number : Option ℕ)
     → slice_get image (page_number address) ≡ page → slice_get numbers (page_number address) ≡ number → AreApart numbers → All (λ n. n < length memory) numbers
-    → option_map (λ (p : Page). set (flat_pages memory image numbers) (page_number address) (with_number width address value p))
+    → option_map (λ (p : Page). set (flat_pages memory image numbers) (page_number address) (page_with_number width address value p))
     (option_and_then (λ (p : Page). cond (grants p.perms kind.Store) (Some p) None) (cond t (joined memory page number) None))
     ≡ option_map (changed memory image numbers address width value) (cond t (page_for kind.Store page number) None)
 stores memory image numbers width address value false page number is_page is_number apart inside = refl
@@ -142,7 +142,7 @@ stores memory image numbers width address value true None number is_page is_numb
 stores memory image numbers width address value true (Some page) None is_page is_number apart inside =
     elim (grants page.perms kind.Store) as (λ g. None ≡ option_map (changed memory image numbers address width value) (cond g None None)) [ true ↦ refl | false ↦ refl ]
 stores memory image numbers width address value true (Some page) (Some number) is_page is_number apart inside =
-    elim (grants page.perms kind.Store) as (λ g. option_map (λ (p : Page). set (flat_pages memory image numbers) (page_number address) (with_number width address value p))
+    elim (grants page.perms kind.Store) as (λ g. option_map (λ (p : Page). set (flat_pages memory image numbers) (page_number address) (page_with_number width address value p))
     (cond g (Some (record { perms = page.perms; bytes = bytes_of memory number })) None)
     ≡ option_map (changed memory image numbers address width value) (cond g (Some number) None)) [
       | true ↦ ap Some (page_changed memory image numbers (page_number address) number page (with_bytes (bytes_of memory number) (address % 4096) (little_bytes width value)) is_page is_number
@@ -154,7 +154,7 @@ stores memory image numbers width address value true (Some page) (Some number) i
 pub stores_located : (memory : List (List ℕ)) (image : List ImagePage) (numbers : List ℕ) (width address value : ℕ) → AreApart numbers → All (λ n. n < length memory) numbers
     → stored (flat_pages memory image numbers) address width value ≡ option_map (changed memory image numbers address width value) (located kind.Store image numbers address)
 stores_located memory image numbers width address value apart inside =
-    ap (λ p. option_map (λ (q : Page). set (flat_pages memory image numbers) (page_number address) (with_number width address value q))
+    ap (λ p. option_map (λ (q : Page). set (flat_pages memory image numbers) (page_number address) (page_with_number width address value q))
     (option_and_then (λ (page : Page). cond (grants page.perms kind.Store) (Some page) None) (cond (leb IMAGE_START address) p None)))
     (page_joined memory image numbers (page_number address))
     ∙ stores memory image numbers width address value (leb IMAGE_START address) (slice_get image (page_number address)) (slice_get numbers (page_number address)) refl refl apart inside

@@ -8,14 +8,15 @@ use Rattle.std.proofs.lemmas.Option.{slice_get_within, slice_get-get_or}
 use Rattle.std.specs.Option.{option_map_or}
 use Rattle.mon_image.specs.declared.image.Image.{Image}
 use Rattle.pl_base.specs.declared.refusal.No.{No}
-use Rattle.pl_base.specs.declared.refusal.No.TheVariants.{Exists, Count, Twice, NotYours, StillMapped}
+use Rattle.pl_base.specs.declared.refusal.No.TheVariants.{Exists, Count, Twice, NotYours, StillMapped, Barred}
 use Rattle.pl_base.specs.declared.state.State.{State}
 use Rattle.pl_base.specs.declared.state.State.TheVariants as state_is
 use Rattle.pl_base.specs.Refusals.{refuse, first_refusal}
 use Rattle.pl_base.specs.States.{is_free}
 use Rattle.pl_history.specs.declared.setup.SetupParts.{SetupParts}
 use Rattle.pl_history.specs.Monitor.{Monitor, is_host}
-use Rattle.pl_history.specs.Making.{page_count, first_twice, first_not_host, first_mapped, create_refusal}
+use Rattle.pl_base.specs.Pages.{first_twice}
+use Rattle.pl_history.specs.Making.{image_page_count, first_not_host, first_mapped, create_refusal}
 use Rattle.world_core.specs.declared.owners.Owner.{Owner as Kept}
 use Rattle.world_core.specs.Owners.{owner_kept, owner_of}
 use Rattle.world_core.specs.Pages.{AreApart}
@@ -118,22 +119,23 @@ find_false (page ∷ pages) = find_false pages
 pub none_mapped : (w : World) (at : ℕ) (pages : List ℕ) → first_mapped (monitor_of w at) pages ≡ None
 none_mapped w at pages = find_false pages
 
-pub no_cause : (a b : Option ℕ) → a ≡ None → b ≡ None → None ≡ first_refusal (option_map NotYours a ∷ option_map StillMapped b ∷ [])
-no_cause None None e f = refl
-no_cause None (Some x) e f = cc
-no_cause (Some x) b e f = cc
+pub last_cause : (a b c : Option ℕ) → a ≡ None → b ≡ None → option_map Barred c ≡ first_refusal (option_map NotYours a ∷ option_map StillMapped b ∷ option_map Barred c ∷ [])
+last_cause None None None e f = refl
+last_cause None None (Some x) e f = refl
+last_cause None (Some x) c e f = cc
+last_cause (Some x) b c e f = cc
 
 -- nothing refuses it
 pub record MayCreate (setup : SetupParts) (s : Monitor) (e number : ℕ) (pages : List ℕ) : Type 0 where
   pub free : (s.number e).state ≡ state_is.Free
-  pub count : length pages ≡ page_count setup number
+  pub count : length pages ≡ image_page_count setup number
   pub apart : AreApart pages
   pub hosts : first_not_host s pages ≡ None
 
 pub may_create : (setup : SetupParts) (s : Monitor) (e number : ℕ) (pages : List ℕ) → create_refusal setup s e number pages ≡ None → MayCreate setup s e number pages
 may_create setup s e number pages none =
     let first = first_none (refuse (not (is_free (s.number e).state)) Exists) _ none in
-    let second = first_none (refuse (not (eqb (length pages) (page_count setup number))) Count) _ first.1 in
+    let second = first_none (refuse (not (eqb (length pages) (image_page_count setup number))) Count) _ first.1 in
     let third = first_none (option_map Twice (first_twice pages)) _ second.1 in
     let fourth = first_none (option_map NotYours (first_not_host s pages)) _ third.1 in
     record {
@@ -143,5 +145,5 @@ may_create setup s e number pages none =
       hosts = map_none NotYours (first_not_host s pages) fourth.0;
     }
 
-pub image_length : (setup : SetupParts) (number : ℕ) (image : Image) → slice_get setup.images number ≡ Some image → page_count setup number ≡ length image.pages
+pub image_length : (setup : SetupParts) (number : ℕ) (image : Image) → slice_get setup.images number ≡ Some image → image_page_count setup number ≡ length image.pages
 image_length setup number image here = ap (λ o. option_map_or (λ (i : Image). length i.pages) o 0) here

@@ -27,7 +27,8 @@ use Rattle.pl_history.specs.Rules.{IsSetup, is_image, is_entry}
 use Rattle.pl_history.specs.Monitor.{Number, Monitor, number, is_host, freed, script_of, flat_image, flat_page, begin, answer}
 use Rattle.pl_base.specs.Pages.{is_among}
 use Rattle.pl_history.specs.Making.{create_refusal, building}
-use Rattle.pl_history.specs.Running.{needs_page, EndsBy, obstacle, Leaves, run_refusal, entered, left}
+use Rattle.pl_base.specs.States.{run_refusal}
+use Rattle.pl_history.specs.Running.{needs_page, EndsBy, obstacle, Leaves, entered, left}
 use Rattle.world_core.specs.declared.world.World.{World}
 use Rattle.world_core.specs.Owners.{owner_of}
 use Rattle.world_core.specs.Pages.{flat_pages, AreApart}

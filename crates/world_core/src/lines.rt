@@ -1,10 +1,10 @@
 // The lines of hart 0, each with its answers.
 ghost use Rattle.std.specs.Prelude.{◌≡◌, ◌<◌, ◌≤◌, ◌+◌, [], ◌∷◌, ◌++◌, length, slice_get, Some, if◌then◌else◌, true};
-ghost use Rattle.pl_base.specs.States.{is_absent, is_fresh, is_paused};
+ghost use Rattle.pl_base.specs.States.{is_fresh, is_paused};
 ghost use Rattle.pl_history.specs.History.{part_end};
 ghost use Rattle.pl_history.specs.Monitor.{script_of};
 ghost use Rattle.pl_history.specs.Rules.{IsSetup};
-ghost use Rattle.pl_history.specs.Running.{run_refusal};
+ghost use Rattle.pl_base.specs.States.{run_refusal};
 ghost use Rattle.world_core.specs.Unbuilt.{is_built};
 ghost use Rattle.world_core.specs.Worlds.{Follows, Names, entry_of, run_line};
 
@@ -55,32 +55,14 @@ fn create(
     }
 }
 
-fn is_absent(state: State) -> bool
-    ensures { result ≡ is_absent state }
-{
-    matches!(state, State::Free | State::Sealed)
-}
-
-fn is_fresh(state: State) -> bool
-    ensures { result ≡ is_fresh state }
-{
-    matches!(state, State::Fresh)
-}
-
-fn is_paused(state: State) -> bool
-    ensures { result ≡ is_paused state }
-{
-    matches!(state, State::Paused)
-}
-
 // Whether an enclave in this state can be run for the first time, or run on.
-fn is_ready(state: State, first: bool) -> bool
+fn may_run(state: State, first: bool) -> bool
     ensures { result ≡ (if first then is_fresh else is_paused) state }
 {
     if first {
-        is_fresh(state)
+        state.is_fresh()
     } else {
-        is_paused(state)
+        state.is_paused()
     }
 }
 
@@ -88,9 +70,9 @@ fn is_ready(state: State, first: bool) -> bool
 fn run_refusal(state: State, first: bool) -> Option<No>
     ensures { result ≡ run_refusal (if first then is_fresh else is_paused) state }
 {
-    if is_absent(state) {
+    if state.is_absent() {
         Some(No::NoEnclave)
-    } else if is_ready(state, first) {
+    } else if may_run(state, first) {
         None
     } else {
         Some(No::WrongState(state))

@@ -1,12 +1,15 @@
 // The owners of all pages, their bytes and the enclave numbers, and what a line does to them.
-ghost use Rattle.std.specs.Prelude.{◌≡◌, ◌≢◌, ◌<◌, ◌≤◌, ◌+◌, ◌*◌, ℕ, length, map, Some, None, IfOk, slice_get, true, false};
+ghost use Rattle.std.specs.Prelude.{◌≡◌, ◌≢◌, ◌<◌, ◌≤◌, ◌+◌, ◌*◌, ℕ, length, map, Some, None, IfOk, slice_get, option_map, find, not, true, false};
+ghost use Rattle.rv_pmp.specs.Pmp.{page_allowed};
 ghost use Rattle.std.specs.List.{All};
 ghost use Rattle.mon_enclave.specs.Records.{enclave_at};
 ghost use Rattle.pl_base.specs.States.{is_free};
 ghost use Rattle.pl_history.specs.Monitor.{flat_page};
 ghost use Rattle.pl_history.specs.Rules.{IsSetup};
 ghost use Rattle.pl_base.specs.Refusals.{first_refusal};
-ghost use Rattle.pl_history.specs.Making.{create_refusal, first_twice, page_refusals};
+ghost use Rattle.pl_base.specs.Pages.{first_twice};
+ghost use Rattle.pl_history.specs.Making.{create_refusal, first_barred, page_refusals};
+ghost use Rattle.pl_base.specs.declared.refusal.No.TheVariants.{Barred};
 ghost use Rattle.world_core.specs.Pages.{AreApart, SameOutside, flat_pages};
 ghost use Rattle.world_core.specs.Worlds.{monitor_of, is_ready, Opens, Stands, Created, Left};
 
@@ -16,7 +19,8 @@ use crate::run::run_on;
 use mon_enclave::Enclaves;
 use mon_image::{Image, ImagePage};
 use pl_base::{EncNo, HartNo, Memory, No, State, Why};
-use pl_history::SetupParts;
+use pl_history::{SetupParts, all_pages, guarded_pages};
+use rv_pmp::Pmp;
 use std::alloc::Global;
 
 // All that lines change, beside the history.
@@ -32,6 +36,20 @@ fn first_twice(pages: &[u32]) -> Option<u32>
     ensures { result ≡ first_twice pages.now }
 {
     pages.iter().copied().find(|page| pages.iter().filter(|other| **other == *page).count() > 1)
+}
+
+// The first page in a list that the protection entries don't leave open.
+fn first_barred(pmp: &Pmp, pages: &[u32]) -> Option<u32>
+    ensures { result ≡ find (λ page. not (page_allowed pmp.now page)) pages.now }
+{
+    pages.iter().copied().find(|page| !pmp.page_allowed(*page))
+}
+
+fn barred(setup: &SetupParts, pages: &[u32]) -> Option<No>
+    requires { IsSetup setup.now }
+    ensures { result ≡ option_map Barred (first_barred setup.now pages.now) }
+{
+    first_barred(&setup.protection(), pages).map(No::Barred)
 }
 
 // Puts the pages of an image into these pages of memory.
@@ -54,8 +72,8 @@ impl World {
         requires { IsSetup setup.now }
         ensures { IfOk result (λ world. Opens setup.now world) }
     {
-        let guard = 2 + usize::from(setup.tables) + 3 * usize::from(setup.enclaves);
-        let pages = 64 * usize::from(setup.zones);
+        let guard = guarded_pages(setup.tables, setup.enclaves) as usize;
+        let pages = all_pages(setup.zones) as usize;
         Ok(World {
             owners: Owners::new(alloc, guard, pages)?,
             memory: PageMemory::new(alloc, pages)?,
@@ -65,12 +83,12 @@ impl World {
 
     // Why these pages can't be taken. No page is mapped.
     fn page_refusal(&self, setup: &SetupParts, pages: &[u32]) -> Option<No>
+        requires { IsSetup setup.now }
         ensures { result ≡ first_refusal (page_refusals setup.now (monitor_of self.now 0) pages.now) }
     {
-        let _ = setup;
         match self.owners.first_not_host(pages) {
             Some(page) => Some(No::NotYours(page)),
-            None => None,
+            None => barred(setup, pages),
         }
     }
 
@@ -84,6 +102,7 @@ impl World {
     ) -> Option<No>
         requires e { e.0 < length self.now.enclaves }
         requires image { number < length setup.now.images }
+        requires rules { IsSetup setup.now }
         ensures { result ≡ create_refusal setup.now (monitor_of self.now 0) e.0 number pages.now }
     {
         let image = &setup.images.as_slice()[usize::from(number)];

@@ -5,12 +5,13 @@ use Rattle.std.specs.List.{list_all, position_from}
 use Rattle.world_setup.specs.Checked.{Checked, ◌>>=◌, unless, some_of, none_at}
 use Rattle.world_setup.specs.Answers.{Answers}
 use Rattle.world_setup.specs.declared.fault.SetupFault.{SetupFault}
-use Rattle.world_setup.specs.declared.fault.SetupFault.TheVariants.{Memory, Bad}
+use Rattle.world_setup.specs.declared.fault.SetupFault.TheVariants.{Memory, Bad, NotToml}
 
 -- a rule that fails ends the chain
 pub fault_on : {A B : Type 0} (read : Checked A) (f : A → Checked B) (fault : SetupFault) → Answers read (Err fault) → Answers (read >>= f) (Err fault)
 fault_on read f Memory said = tt
 fault_on read f (Bad rule item) said = rw said
+fault_on read f (NotToml cause) said = rw said
 
 -- a chain that gave a value passed its first rule, and then the rest
 module _ {B : Type 0} where

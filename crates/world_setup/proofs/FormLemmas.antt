@@ -14,11 +14,12 @@ use Rattle.pl_history.specs.declared.line.Line.{Line}
 use Rattle.pl_history.specs.declared.line.Line.TheVariants as line
 use Rattle.pl_history.specs.declared.line.AttackLine.{AttackLine}
 use Rattle.pl_history.specs.declared.line.AttackLine.TheVariants as attack
-use Rattle.pl_history.specs.Rules.{is_within, are_perms, is_page_list, is_line, is_attack_line, is_name}
+use Rattle.pl_base.specs.Perms.{are_page_perms}
+use Rattle.pl_history.specs.Rules.{is_within, is_page_list, is_line, is_attack_line, is_name}
 use Rattle.world_setup.specs.declared.page_lists.PageRange.{PageRange}
 use Rattle.world_setup.specs.Words.{parts_of, words_of}
-use Rattle.world_setup.specs.Arguments.{within, number_of, short_of, enclave_of, budget_of, length_of, address_of, perms_of_text, decoded, bytes_of_hex, hex_bytes_of, name_of}
-use Rattle.world_setup.specs.PageLists.{all_ranges, page_count, range_pages, pages_of_ranges, page_list_of}
+use Rattle.world_setup.specs.Arguments.{within, small_number_of, short_of, enclave_of, budget_of, length_of, address_of, perms_of_text, decoded, bytes_of_hex, hex_bytes_of, name_of}
+use Rattle.world_setup.specs.PageLists.{all_ranges, range_length, range_pages, pages_of_ranges, page_list_of}
 use Rattle.world_setup.specs.Forms.{line_of_one, line_of_two, line_of_three, line_of_words, line_of, attack_line_of_one, attack_line_of_two, attack_line_of_three, attack_line_of_words, attack_line_of}
 use Rattle.world_setup.proofs.Parts.{both_parts}
 use Rattle.world_setup.proofs.Passes.{Passes, none_passes, some_passes, if_passes, guarded_passes, map_passes, both_passes, three_pass}
@@ -32,23 +33,23 @@ within_passes low high (Some n) = guarded_passes (is_within low high) (is_within
 at_least_1 : (text : List ℕ) (n : ℕ) → budget_of text ≡ Some n → nat_le 1 n ≡ true
 at_least_1 text n is = (both_parts (nat_le 1 n) (nat_le n 0xffff_ffff) (within_passes 1 0xffff_ffff (dec_value text) n is)).0
 
-pub perms_pass : (text : List ℕ) → Passes (λ (p : Perms). are_perms p.0) (perms_of_text text)
+pub perms_pass : (text : List ℕ) → Passes (λ (p : Perms). are_page_perms p) (perms_of_text text)
 perms_pass text =
-    let test = λ (p : Perms). are_perms p.0 in
+    let test = λ (p : Perms). are_page_perms p in
     if_passes test (bytes_eq text (codes "r")) _ _ (some_passes test (record { 0 = 1 }) refl)
     (if_passes test (bytes_eq text (codes "rw")) _ _ (some_passes test (record { 0 = 3 }) refl)
     (if_passes test (bytes_eq text (codes "rx")) _ _ (some_passes test (record { 0 = 5 }) refl)
     (if_passes test (bytes_eq text (codes "rwx")) _ _ (some_passes test (record { 0 = 7 }) refl) (none_passes test))))
 
-length_of_ranges : (ranges : List PageRange) → length (flat_map range_pages ranges) ≡ sum_by page_count ranges
+length_of_ranges : (ranges : List PageRange) → length (flat_map range_pages ranges) ≡ sum_by range_length ranges
 length_of_ranges [] = refl
 length_of_ranges (range ∷ ranges) =
-    rw (length-append (range_pages range) (flat_map range_pages ranges), length-range_with_len range.first (page_count range), length_of_ranges ranges) (sym (sum_by-cons page_count range ranges))
+    rw (length-append (range_pages range) (flat_map range_pages ranges), length-range_with_len range.first (range_length range), length_of_ranges ranges) (sym (sum_by-cons range_length range ranges))
 
 ranges_pass : (o : Option (List PageRange)) → Passes is_page_list (option_and_then pages_of_ranges o)
 ranges_pass None = none_passes is_page_list
 ranges_pass (Some ranges) =
-    guarded_passes is_page_list (nat_le (sum_by page_count ranges) 512) (Some (flat_map range_pages ranges)) (λ few.
+    guarded_passes is_page_list (nat_le (sum_by range_length ranges) 512) (Some (flat_map range_pages ranges)) (λ few.
     some_passes is_page_list (flat_map range_pages ranges) (ap (λ n. nat_le n 512) (length_of_ranges ranges) ∙ few))
 
 pages_pass : (text : List ℕ) → Passes is_page_list (page_list_of text)
@@ -90,17 +91,17 @@ two_pass : (word a b : List ℕ) → Passes is_line (line_of_two word a b)
 unfolding line_of_two
 two_pass word a b =
     if_passes is_line (bytes_eq word (codes "store")) _ _ (both_passes is_line (λ va w. line.Store va w) (address_of a) (hex_value b) (λ va w _. refl))
-    (if_passes is_line (bytes_eq word (codes "grant")) _ _ (both_passes is_line (λ e page. line.Grant e page) (enclave_of a) (number_of b) (λ e page _. refl))
+    (if_passes is_line (bytes_eq word (codes "grant")) _ _ (both_passes is_line (λ e page. line.Grant e page) (enclave_of a) (small_number_of b) (λ e page _. refl))
     (if_passes is_line (bytes_eq word (codes "run")) _ _ (both_passes is_line (λ e budget. line.Run e budget) (enclave_of a) (budget_of b) (λ e budget is. at_least_1 b budget is))
     (if_passes is_line (bytes_eq word (codes "resume")) _ _ (both_passes is_line (λ e budget. line.Resume e budget) (enclave_of a) (budget_of b) (λ e budget is. at_least_1 b budget is))
     (if_passes is_line (bytes_eq word (codes "send")) _ _ (both_passes is_line (λ e w. line.Send e w) (enclave_of a) (hex_value b) (λ e w _. refl))
-    (if_passes is_line (bytes_eq word (codes "after")) _ _ (both_passes is_line (λ j k. line.After j k) (short_of a) (number_of b) (λ j k _. refl)) (none_passes is_line))))))
+    (if_passes is_line (bytes_eq word (codes "after")) _ _ (both_passes is_line (λ j k. line.After j k) (short_of a) (small_number_of b) (λ j k _. refl)) (none_passes is_line))))))
 
 three_passes : (word a b c : List ℕ) → Passes is_line (line_of_three word a b c)
 unfolding line_of_three
 three_passes word a b c =
     if_passes is_line (bytes_eq word (codes "map")) _ _
-    (three_pass is_line (λ va page perms. line.Map va page perms) (address_of a) (number_of b) (perms_of_text c) (λ va page perms _ is. perms_pass c perms is))
+    (three_pass is_line (λ va page perms. line.Map va page perms) (address_of a) (small_number_of b) (perms_of_text c) (λ va page perms _ is. perms_pass c perms is))
     (if_passes is_line (bytes_eq word (codes "create")) _ _
     (three_pass is_line (λ e image pages. line.Create e image pages) (enclave_of a) (short_of b) (page_list_of c) (λ e image pages _ is. pages_pass c pages is))
     (if_passes is_line (bytes_eq word (codes "shadow")) _ _
@@ -128,7 +129,7 @@ attack_one_passes word a =
 
 attack_two_pass : (word a b : List ℕ) → Passes is_attack_line (attack_line_of_two word a b)
 attack_two_pass word a b =
-    if_passes is_attack_line (bytes_eq word (codes "after")) _ _ (both_passes is_attack_line (λ j k. attack.After j k) (short_of a) (number_of b) (λ j k _. refl))
+    if_passes is_attack_line (bytes_eq word (codes "after")) _ _ (both_passes is_attack_line (λ j k. attack.After j k) (short_of a) (small_number_of b) (λ j k _. refl))
     (if_passes is_attack_line (bytes_eq word (codes "write")) _ _
     (both_passes is_attack_line (λ pa bytes. attack.Write pa bytes) (hex_value a) (hex_bytes_of b) (λ pa bytes is. hex_bytes_pass b bytes is)) (none_passes is_attack_line))
 

@@ -8,9 +8,9 @@ use Rattle.toml.specs.Data.{Data, string, integer, float, boolean, datetime, arr
 use Rattle.pl_base.specs.declared.perms.Perms.{Perms}
 use Rattle.mon_image.specs.declared.page.ImagePage.{ImagePage}
 use Rattle.pl_history.specs.Rules.{is_within, is_entry}
-use Rattle.world_setup.specs.Walk.{list_of, items_at, is_table}
+use Rattle.world_setup.specs.TomlData.{list_of, items_at, is_table}
 use Rattle.world_setup.specs.Keys.{images_in, pages_at, pages_in}
-use Rattle.world_setup.specs.Images.{is_image_array, entry_at, enters, has_entry, is_page_array, has_pages, perms_at, bytes_at, has_perms, has_bytes, page_of_bytes, page_of, pages_of, image_from, image_of, images_hold, pages_hold}
+use Rattle.world_setup.specs.Images.{is_image_array, entry_at, enters, has_entry, is_page_array, has_pages, perms_at, bytes_at, has_perms, has_bytes, page_of_bytes, page_of, image_pages_of, image_from, image_of, images_hold, pages_hold}
 use Rattle.world_setup.proofs.Chains.{unless_held, none_held, none_last, passes_all}
 use Rattle.world_setup.proofs.Choices.{all_counted}
 
@@ -23,7 +23,7 @@ both_read (Some perms) (Some bytes) e f = (record { perms = perms; bytes = page_
 page_read : (d : Data) → has_perms d ≡ true → has_bytes d ≡ true → (page : ImagePage) × (page_of d ≡ Some page)
 page_read d perms bytes = both_read (perms_at d) (bytes_at d) perms bytes
 
-pages_read : (ds : List Data) → list_all has_perms ds ≡ true → list_all has_bytes ds ≡ true → (pages : List ImagePage) × (pages_of ds ≡ Some pages) × (length pages ≡ length ds)
+pages_read : (ds : List Data) → list_all has_perms ds ≡ true → list_all has_bytes ds ≡ true → (pages : List ImagePage) × (image_pages_of ds ≡ Some pages) × (length pages ≡ length ds)
 pages_read [] perms bytes = ([], refl, refl)
 pages_read (d ∷ ds) perms bytes =
     let p = and_parts (has_perms d) (list_all has_perms ds) perms in

@@ -8,7 +8,7 @@ use Rattle.std.proofs.lemmas.Bool.Decides.{nat_tests}
 use Rattle.std.specs.List.{list_all, flat_map}
 use Rattle.toml.specs.Data.{Data, string, integer, float, boolean, datetime, array, table, Members, get_member}
 use Rattle.pl_history.specs.Rules.{is_within}
-use Rattle.world_setup.specs.Walk.{list_of, items_at, is_table}
+use Rattle.world_setup.specs.TomlData.{list_of, items_at, is_table}
 use Rattle.world_setup.specs.Keys.{images_in, pages_at, pages_in}
 use Rattle.world_setup.specs.Images.{is_image_array, has_entry, is_page_array, has_pages, images_hold}
 use Rattle.world_setup.proofs.Chains.{unless_held, none_held, none_last, passes_all}

@@ -8,11 +8,12 @@ use Rattle.toml.specs.Data.{Data, Members, get_member}
 use Rattle.pl_base.specs.declared.perms.Perms.{Perms}
 use Rattle.mon_image.specs.declared.page.ImagePage.{ImagePage}
 use Rattle.mon_image.specs.declared.image.Image.{Image}
-use Rattle.pl_history.specs.Rules.{is_within, are_perms, is_page, is_entry, is_image}
-use Rattle.world_setup.specs.Walk.{members_in, text_at}
+use Rattle.pl_base.specs.Perms.{are_page_perms}
+use Rattle.pl_history.specs.Rules.{is_within, is_page, is_entry, is_image}
+use Rattle.world_setup.specs.TomlData.{members_in, text_at}
 use Rattle.world_setup.specs.Arguments.{perms_of_text}
 use Rattle.world_setup.specs.Keys.{images_in, pages_in}
-use Rattle.world_setup.specs.Images.{is_image_array, entry_at, perms_at, bytes_at, page_of_bytes, page_of, pages_of, image_from, image_of, images_hold, pages_hold, images_of}
+use Rattle.world_setup.specs.Images.{is_image_array, entry_at, perms_at, bytes_at, page_of_bytes, page_of, image_pages_of, image_from, image_of, images_hold, pages_hold, images_of}
 use Rattle.world_setup.proofs.Chains.{unless_held, held}
 use Rattle.world_setup.proofs.Choices.{chosen, ok_same, fewer, all_chosen}
 use Rattle.world_setup.proofs.FormLemmas.{perms_pass}
@@ -21,7 +22,7 @@ use Rattle.world_setup.proofs.ImageRules.{images_fit}
 page_size : (bytes : List ℕ) → length (page_of_bytes bytes) ≡ 4096
 page_size bytes = omega (arith, length-append (take 4096 bytes) (replicate (4096 - length bytes) 0), length-take 4096 bytes, length-replicate {A = ℕ} (4096 - length bytes) 0)
 
-page_from : (perms : Perms) (o : Option (List ℕ)) (page : ImagePage) → are_perms perms.0 ≡ true → option_map (λ bytes. record { perms = perms; bytes = page_of_bytes bytes }) o ≡ Some page → is_page page ≡ true
+page_from : (perms : Perms) (o : Option (List ℕ)) (page : ImagePage) → are_page_perms perms ≡ true → option_map (λ bytes. record { perms = perms; bytes = page_of_bytes bytes }) o ≡ Some page → is_page page ≡ true
 page_from perms None page allowed is = cc
 page_from perms (Some bytes) page allowed is =
     let made : ImagePage = record { perms = perms; bytes = page_of_bytes bytes } in
@@ -37,11 +38,11 @@ put_first : (page : ImagePage) (others : Option (List ImagePage)) (pages : List 
 put_first page None pages is = cc
 put_first page (Some rest) pages is = (rest, refl, same_Some (page ∷ rest) pages is)
 
-pages_valid : (ds : List Data) (pages : List ImagePage) → pages_of ds ≡ Some pages → list_all is_page pages ≡ true
+pages_valid : (ds : List Data) (pages : List ImagePage) → image_pages_of ds ≡ Some pages → list_all is_page pages ≡ true
 pages_valid [] pages is = subst (λ ps. list_all is_page ps ≡ true) (same_Some [] pages is) refl
 pages_valid (d ∷ ds) pages is =
-    option_and_then_some (λ (page : ImagePage). option_map (λ (rest : List ImagePage). page ∷ rest) (pages_of ds)) (page_of d) pages is (λ page found later.
-    let both = put_first page (pages_of ds) pages later in
+    option_and_then_some (λ (page : ImagePage). option_map (λ (rest : List ImagePage). page ∷ rest) (image_pages_of ds)) (page_of d) pages is (λ page found later.
+    let both = put_first page (image_pages_of ds) pages later in
     subst (λ ps. list_all is_page ps ≡ true) both.2 (rw (page_valid d page found, pages_valid ds both.0 both.1) refl))
 
 from_valid : (entry : Option ℕ) (pages : List ImagePage) (image : Image) → list_all is_page pages ≡ true → image_from entry pages ≡ Some image → is_image image ≡ true
@@ -54,7 +55,7 @@ from_valid (Some entry) pages image valid is =
 
 image_valid : (d : Data) (image : Image) → image_of d ≡ Some image → is_image image ≡ true
 image_valid d image is =
-    option_and_then_some (image_from (entry_at d)) (pages_of (pages_in d)) image is (λ pages found made. from_valid (entry_at d) pages image (pages_valid (pages_in d) pages found) made)
+    option_and_then_some (image_from (entry_at d)) (image_pages_of (pages_in d)) image is (λ pages found made. from_valid (entry_at d) pages image (pages_valid (pages_in d) pages found) made)
 
 pub record AreImages (images : List Image) : Type 0 where
   pub few : length images ≤ 64

@@ -5,7 +5,7 @@ use Rattle.std.specs.List.{list_all, list_any}
 use Rattle.std.specs.Str.{bytes_eq}
 use Rattle.toml.specs.View.{table_view}
 use Rattle.toml.specs.declared.value.Value.{Value}
-use Rattle.world_setup.specs.Walk.{keys_of}
+use Rattle.world_setup.specs.TomlData.{keys_of}
 use Rattle.world_setup.proofs.Views.{keys_of-view, list_any-now}
 
 pub keys_start : (test : List ℕ → Bool) (t : BTreeMap (String Global) Value) (ks left : List (String Global)) → left ≡ ks → ks ≡ keys t

@@ -10,8 +10,8 @@ pub mod Parts
 pub mod Passes
 pub mod Ranges
 pub mod FirstWords
-pub mod FaultSteps
-pub mod FaultLemmas
+pub mod ReferenceSteps
+pub mod ReferenceLemmas
 pub mod FormLemmas
 pub mod EntryLemmas
 pub mod OrderLemmas

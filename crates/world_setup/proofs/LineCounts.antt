@@ -7,7 +7,7 @@ use Rattle.std.proofs.lemmas.Option.{same_Some}
 use Rattle.pl_history.specs.declared.line.Line.{Line}
 use Rattle.pl_history.specs.declared.line.AttackLine.{AttackLine}
 use Rattle.pl_history.specs.Rules.{attack_known, attack_length}
-use Rattle.world_setup.specs.Faults.{first_attack_from, first_attack}
+use Rattle.world_setup.specs.References.{first_attack_from, first_attack}
 
 -- a script more
 pub counted : (scripts : List (List Line)) (total at count size : ℕ) (lines : List Line) → count + sum_by length (drop at scripts) ≡ total → at < length scripts → lines ≡ get_or scripts at lines → size ≡ length lines

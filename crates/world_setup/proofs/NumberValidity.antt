@@ -3,7 +3,7 @@ use Rattle.std.proofs.Common.{◌≡◌, ℕ, pos, negsuc, ◌&&◌, nat_le, nat
 use Rattle.toml.specs.Data.{Data, string, integer, float, boolean, datetime, array, table, Members, get_member}
 use Rattle.pl_history.specs.Rules.{is_within, guarded_of, pages_of}
 use Rattle.world_setup.specs.declared.numbers.Numbers.{Numbers}
-use Rattle.world_setup.specs.Walk.{number_in, text_at}
+use Rattle.world_setup.specs.TomlData.{number_in, text_at}
 use Rattle.world_setup.specs.Numbers.{number_at, choice_of, numbers_of}
 use Rattle.world_setup.proofs.Chains.{unless_held, some_held}
 use Rattle.world_setup.proofs.Choices.{chosen, ok_same}

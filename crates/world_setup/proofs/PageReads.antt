@@ -8,7 +8,7 @@ use Rattle.toml.specs.Data.{Data}
 use Rattle.pl_base.specs.declared.perms.Perms.{Perms}
 use Rattle.mon_image.specs.declared.page.ImagePage.{ImagePage}
 use Rattle.world_setup.specs.Keys.{pages_in}
-use Rattle.world_setup.specs.Images.{perms_at, bytes_at, has_perms, has_bytes, page_of_bytes, page_of, pages_of, image_from, image_of, entry_at, pages_hold}
+use Rattle.world_setup.specs.Images.{perms_at, bytes_at, has_perms, has_bytes, page_of_bytes, page_of, image_pages_of, image_from, image_of, entry_at, pages_hold}
 use Rattle.world_setup.proofs.Chains.{none_from}
 use Rattle.world_setup.proofs.Choices.{all_where_counted}
 
@@ -25,9 +25,9 @@ both_some : (p : Option ImagePage) (ps : Option (List ImagePage)) → is_some (o
 both_some (Some page) ps some = (refl, mapped_some (λ pages. page ∷ pages) ps some)
 both_some None ps some = cc
 
-each_read : (ds : List Data) → is_some (pages_of ds) ≡ true → list_all (λ d. is_some (page_of d)) ds ≡ true
+each_read : (ds : List Data) → is_some (image_pages_of ds) ≡ true → list_all (λ d. is_some (page_of d)) ds ≡ true
 each_read [] some = refl
-each_read (d ∷ ds) some = let both = both_some (page_of d) (pages_of ds) some in rw (both.0, each_read ds both.1) refl
+each_read (d ∷ ds) some = let both = both_some (page_of d) (image_pages_of ds) some in rw (both.0, each_read ds both.1) refl
 
 bytes_some : (d : Data) → is_some (page_of d) ≡ true → has_bytes d ≡ true
 bytes_some d some = by_perms (perms_at d) some
@@ -47,7 +47,7 @@ weaker p q [] each all = refl
 weaker p q (d ∷ ds) each all = let both = and_parts (p d) (list_all p ds) all in rw (each d both.0, weaker p q ds each both.1) refl
 
 image_pages : (d : Data) → is_some (image_of d) ≡ true → list_all (λ page. is_some (page_of page)) (pages_in d) ≡ true
-image_pages d some = each_read (pages_in d) (first_some (image_from (entry_at d)) (pages_of (pages_in d)) some)
+image_pages d some = each_read (pages_in d) (first_some (image_from (entry_at d)) (image_pages_of (pages_in d)) some)
 
 all_pages : (ds : List Data) → list_all (λ d. is_some (image_of d)) ds ≡ true → list_all (λ page. is_some (page_of page)) (flat_map pages_in ds) ≡ true
 all_pages [] all = refl

@@ -10,7 +10,7 @@ use Rattle.rv_pmp.specs.declared.rule.Rule.{Rule}
 use Rattle.rv_pmp.specs.Rule.{is_valid}
 use Rattle.pl_history.specs.Rules.{is_within, are_entries, is_protection, is_actor}
 use Rattle.world_setup.specs.Checked.{Checked}
-use Rattle.world_setup.specs.Walk.{list_of}
+use Rattle.world_setup.specs.TomlData.{list_of}
 use Rattle.world_setup.specs.Entries.{entry_of}
 use Rattle.world_setup.specs.Order.{order_of}
 use Rattle.world_setup.specs.Protection.{if_above, entry_above, entry_then, entries_from, entries_of, protection_of, by_rule_13, order_in, order_at}

@@ -9,18 +9,18 @@ use Rattle.toml.specs.Data.{Data, Members}
 use Rattle.world_setup.specs.declared.scripts.Scripts.{Scripts}
 use Rattle.world_setup.specs.Keys.{harts_in}
 use Rattle.world_setup.specs.Forms.{line_of, attack_line_of}
-use Rattle.world_setup.specs.Scripts.{hart_texts, script_texts, attack_texts, has_no_form, has_no_attack_form, forms_hold, script_of, attack_script, IsRead}
+use Rattle.world_setup.specs.Scripts.{hart_texts, script_texts, attack_texts, has_no_form, has_no_attack_form, forms_hold, hart_lines, attack_script, IsRead}
 use Rattle.world_setup.proofs.Chains.{none_held, none_last, all_from, none_from}
 use Rattle.world_setup.proofs.Choices.{all_counted, all_where_counted, none_mapped}
 
-lines_counted : (harts : List Data) → list_all (λ text. is_some (line_of text)) (flat_map hart_texts harts) ≡ true → sum_by length (map script_of harts) ≡ length (flat_map hart_texts harts)
+lines_counted : (harts : List Data) → list_all (λ text. is_some (line_of text)) (flat_map hart_texts harts) ≡ true → sum_by length (map hart_lines harts) ≡ length (flat_map hart_texts harts)
 lines_counted [] all = refl
 lines_counted (hart ∷ harts) all =
     let both = and_parts (list_all (λ text. is_some (line_of text)) (hart_texts hart)) (list_all (λ text. is_some (line_of text)) (flat_map hart_texts harts))
     (sym (list_all-append (λ text. is_some (line_of text)) (hart_texts hart) (flat_map hart_texts harts)) ∙ all) in
     omega (
       arith,
-      sum_by-cons length (script_of hart) (map script_of harts),
+      sum_by-cons length (hart_lines hart) (map hart_lines harts),
       length-append (hart_texts hart) (flat_map hart_texts harts),
       all_counted line_of (hart_texts hart) both.0,
       lines_counted harts both.1,
@@ -40,7 +40,7 @@ have_forms scripts attacks is =
       attack_lines = all_from (λ text. is_some (attack_line_of text)) 0 attacks (none_mapped (λ at. length scripts + at) (position_from has_no_attack_form 0 attacks) last);
     }
 
-pub all_lines_read : (t : Members) (s : Scripts) → forms_hold (script_texts t) (attack_texts t) ≡ Ok tt → s.lines ≡ map script_of (harts_in t) → s.attacker ≡ attack_script t → IsRead t s
+pub all_lines_read : (t : Members) (s : Scripts) → forms_hold (script_texts t) (attack_texts t) ≡ Ok tt → s.lines ≡ map hart_lines (harts_in t) → s.attacker ≡ attack_script t → IsRead t s
 all_lines_read t s held lines attacks =
     let forms = have_forms (script_texts t) (attack_texts t) held in
     record {
@@ -49,12 +49,12 @@ all_lines_read t s held lines attacks =
     }
 
 -- as many lines as texts have a form
-pub chosen_count : (harts : List Data) → sum_by length (map script_of harts) ≡ length (filter_map line_of (flat_map hart_texts harts))
+pub chosen_count : (harts : List Data) → sum_by length (map hart_lines harts) ≡ length (filter_map line_of (flat_map hart_texts harts))
 chosen_count [] = refl
 chosen_count (hart ∷ harts) =
     omega (
       arith,
-      sum_by-cons length (script_of hart) (map script_of harts),
+      sum_by-cons length (hart_lines hart) (map hart_lines harts),
       chosen_count harts,
       ap length (filter_map-append line_of (hart_texts hart) (flat_map hart_texts harts)),
       length-append (filter_map line_of (hart_texts hart)) (filter_map line_of (flat_map hart_texts harts)),

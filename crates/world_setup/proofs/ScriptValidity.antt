@@ -8,10 +8,10 @@ use Rattle.std.proofs.lemmas.List.Sums.{sum_by-cons}
 use Rattle.toml.specs.Data.{Data, string, integer, float, boolean, datetime, array, table, Members, get_member}
 use Rattle.pl_history.specs.Rules.{is_line, is_attack_line}
 use Rattle.world_setup.specs.declared.scripts.Scripts.{Scripts}
-use Rattle.world_setup.specs.Walk.{list_of, items_at}
+use Rattle.world_setup.specs.TomlData.{list_of, items_at}
 use Rattle.world_setup.specs.Keys.{harts_in}
 use Rattle.world_setup.specs.Forms.{line_of, attack_line_of}
-use Rattle.world_setup.specs.Scripts.{has_script, is_hart_array, hart_texts, script_texts, attack_texts, scripts_hold, forms_hold, script_of, attack_script, scripts_of}
+use Rattle.world_setup.specs.Scripts.{has_script, is_hart_array, hart_texts, script_texts, attack_texts, scripts_hold, forms_hold, hart_lines, attack_script, scripts_of}
 use Rattle.world_setup.proofs.Chains.{unless_held, held}
 use Rattle.world_setup.proofs.Choices.{ok_same, fewer, all_chosen}
 use Rattle.world_setup.proofs.FormLemmas.{line_has_form, attack_line_has_form}
@@ -28,12 +28,12 @@ harts_fit harts (Some (table ms)) e = cc
 harts_fit harts None e = cc
 
 -- no more lines than texts
-pub few_lines : (harts : List Data) → sum_by length (map script_of harts) ≤ length (flat_map hart_texts harts)
+pub few_lines : (harts : List Data) → sum_by length (map hart_lines harts) ≤ length (flat_map hart_texts harts)
 few_lines [] = omega arith
 few_lines (hart ∷ harts) =
-    omega (arith, sum_by-cons length (script_of hart) (map script_of harts), length-append (hart_texts hart) (flat_map hart_texts harts), fewer line_of (hart_texts hart), few_lines harts)
+    omega (arith, sum_by-cons length (hart_lines hart) (map hart_lines harts), length-append (hart_texts hart) (flat_map hart_texts harts), fewer line_of (hart_texts hart), few_lines harts)
 
-all_lines : (harts : List Data) → list_all (list_all is_line) (map script_of harts) ≡ true
+all_lines : (harts : List Data) → list_all (list_all is_line) (map hart_lines harts) ≡ true
 all_lines [] = refl
 all_lines (hart ∷ harts) = rw (all_chosen is_line line_of (hart_texts hart) line_has_form, all_lines harts) refl
 
@@ -53,9 +53,9 @@ scripts_valid harts t s is =
     let first = held (scripts_hold harts t) _ s is in
     let count = unless_held (nat_le (length (script_texts t) + length (attack_texts t)) 65536) 21 _ s first.2 in
     let then' = held (forms_hold (script_texts t) (attack_texts t)) _ s count.1 in
-    let made : Scripts = record { lines = map script_of (harts_in t); attacker = attack_script t } in
+    let made : Scripts = record { lines = map hart_lines (harts_in t); attacker = attack_script t } in
     subst (AreScripts harts) (ok_same made s then'.2) (record {
-      scripts = length-map (harts_in t) script_of ∙ as_many harts t first.1;
+      scripts = length-map (harts_in t) hart_lines ∙ as_many harts t first.1;
       few = omega (arith, few_lines (harts_in t), fewer attack_line_of (attack_texts t), leb-true (length (script_texts t) + length (attack_texts t)) 65536 count.0);
       lines = all_lines (harts_in t);
       attacks = all_chosen is_attack_line attack_line_of (attack_texts t) attack_line_has_form;

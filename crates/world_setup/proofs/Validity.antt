@@ -13,10 +13,10 @@ use Rattle.world_setup.specs.Numbers.{numbers_of}
 use Rattle.world_setup.specs.Protection.{protection_of, order_at}
 use Rattle.world_setup.specs.Images.{images_of}
 use Rattle.world_setup.specs.Scripts.{scripts_of}
-use Rattle.world_setup.specs.Faults.{first_unknown, first_wait, first_attack}
+use Rattle.world_setup.specs.References.{first_unknown, first_wait, first_attack}
 use Rattle.world_setup.specs.SetupOf.{AreFew, lines_known, parts_of}
 use Rattle.world_setup.proofs.Chains.{none_held, none_last}
-use Rattle.world_setup.proofs.FaultLemmas.{names_are_known, waits_are_known, attacks_are_known}
+use Rattle.world_setup.proofs.ReferenceLemmas.{names_are_known, waits_are_known, attacks_are_known}
 use Rattle.world_setup.proofs.Choices.{none_mapped}
 use Rattle.world_setup.proofs.NumberValidity.{numbers_valid}
 use Rattle.world_setup.proofs.ProtectionValidity.{protection_valid, order_valid}

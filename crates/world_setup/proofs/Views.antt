@@ -5,7 +5,7 @@ use Rattle.toml.specs.Data.{Data}
 use Rattle.toml.specs.View.{view, items_view, members_view}
 use Rattle.toml.proofs.Views.{view-Array}
 use Rattle.toml.specs.declared.value.Value.{Value, Array}
-use Rattle.world_setup.specs.Walk.{list_of, keys_of, items_at}
+use Rattle.world_setup.specs.TomlData.{list_of, keys_of, items_at}
 
 pub list_of-view : (vs : List Value) → list_of (items_view vs) ≡ map view vs
 list_of-view [] = refl

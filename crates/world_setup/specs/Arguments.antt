@@ -15,12 +15,12 @@ within low high None = None
 within low high (Some n) = if is_within low high n then Some n else None
 
 -- a decimal number below 2^32
-abbrev pub number_of : List ℕ → Option ℕ
-number_of text = within 0 0xffff_ffff (dec_value text)
+abbrev pub small_number_of : List ℕ → Option ℕ
+small_number_of text = within 0 0xffff_ffff (dec_value text)
 
 -- the same, of which 255 and more are one: no enclave, image or actor has such a number
 abbrev pub short_of : List ℕ → Option ℕ
-short_of text = option_map (min 255) (number_of text)
+short_of text = option_map (min 255) (small_number_of text)
 
 abbrev pub enclave_of : List ℕ → Option EncNo
 enclave_of text = option_map (λ n. record { 0 = n }) (short_of text)

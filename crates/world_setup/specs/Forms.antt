@@ -7,7 +7,7 @@ use Rattle.pl_history.specs.declared.line.Line.TheVariants as line
 use Rattle.pl_history.specs.declared.line.AttackLine.{AttackLine}
 use Rattle.pl_history.specs.declared.line.AttackLine.TheVariants as attack
 use Rattle.world_setup.specs.Words.{words_of}
-use Rattle.world_setup.specs.Arguments.{number_of, short_of, enclave_of, budget_of, length_of, address_of, perms_of_text, hex_bytes_of, name_of}
+use Rattle.world_setup.specs.Arguments.{small_number_of, short_of, enclave_of, budget_of, length_of, address_of, perms_of_text, hex_bytes_of, name_of}
 use Rattle.world_setup.specs.PageLists.{page_list_of}
 
 -- what two arguments give, where each is of its kind
@@ -34,15 +34,15 @@ line_of_one word a =
 unfoldable pub line_of_two : List ℕ → List ℕ → List ℕ → Option Line
 line_of_two word a b =
     if bytes_eq word (codes "store") then both (λ va w. line.Store va w) (address_of a) (hex_value b)
-    else if bytes_eq word (codes "grant") then both (λ e page. line.Grant e page) (enclave_of a) (number_of b)
+    else if bytes_eq word (codes "grant") then both (λ e page. line.Grant e page) (enclave_of a) (small_number_of b)
     else if bytes_eq word (codes "run") then both (λ e budget. line.Run e budget) (enclave_of a) (budget_of b)
     else if bytes_eq word (codes "resume") then both (λ e budget. line.Resume e budget) (enclave_of a) (budget_of b)
     else if bytes_eq word (codes "send") then both (λ e w. line.Send e w) (enclave_of a) (hex_value b)
-    else if bytes_eq word (codes "after") then both (λ j k. line.After j k) (short_of a) (number_of b)
+    else if bytes_eq word (codes "after") then both (λ j k. line.After j k) (short_of a) (small_number_of b)
     else None
 
 abbrev pub map_line_of : List ℕ → List ℕ → List ℕ → Option Line
-map_line_of a b c = all_three (λ va page perms. line.Map va page perms) (address_of a) (number_of b) (perms_of_text c)
+map_line_of a b c = all_three (λ va page perms. line.Map va page perms) (address_of a) (small_number_of b) (perms_of_text c)
 
 -- with a list of pages as the last argument
 abbrev pub line_of_pages : List ℕ → List ℕ → List ℕ → Option (List ℕ) → Option Line
@@ -71,7 +71,7 @@ abbrev pub attack_line_of_one : List ℕ → List ℕ → Option AttackLine
 attack_line_of_one word a = if bytes_eq word (codes "back") then option_map (λ name. attack.Back name) (name_of a) else None
 
 abbrev pub after_line_of : List ℕ → List ℕ → Option AttackLine
-after_line_of a b = both (λ j k. attack.After j k) (short_of a) (number_of b)
+after_line_of a b = both (λ j k. attack.After j k) (short_of a) (small_number_of b)
 
 abbrev pub attack_line_of_two : List ℕ → List ℕ → List ℕ → Option AttackLine
 attack_line_of_two word a b =

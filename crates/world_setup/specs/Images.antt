@@ -7,9 +7,10 @@ use Rattle.pl_base.specs.declared.perms.Perms.{Perms}
 use Rattle.pl_io.specs.Numbers.{hex_value}
 use Rattle.mon_image.specs.declared.page.ImagePage.{ImagePage}
 use Rattle.mon_image.specs.declared.image.Image.{Image}
+use Rattle.pl_base.specs.declared.page.TheConstants.{IMAGE_START}
 use Rattle.pl_history.specs.Rules.{is_within, is_entry}
 use Rattle.world_setup.specs.Checked.{Checked, ◌>>=◌, unless, none_at}
-use Rattle.world_setup.specs.Walk.{list_of, members_in, text_at, is_table}
+use Rattle.world_setup.specs.TomlData.{list_of, members_in, text_at, is_table}
 use Rattle.world_setup.specs.Keys.{images_in, pages_at, pages_in}
 use Rattle.world_setup.specs.Arguments.{perms_of_text, bytes_of_hex}
 
@@ -24,10 +25,10 @@ is_image_array (Some _) = false
 abbrev pub entry_at : Data → Option ℕ
 entry_at image = option_and_then hex_value (text_at (codes "entry") (members_in image))
 
--- a multiple of 4 in the image; where it has no array of pages, one from 0x10000 on
+-- a multiple of 4 in the image; where it has no array of pages, one from IMAGE_START on
 abbrev pub enters : Option Data → ℕ → Bool
 enters (Some (array ds)) entry = is_entry (length (list_of ds)) entry
-enters _ entry = entry % 4 == 0 && nat_le 0x10000 entry
+enters _ entry = entry % 4 == 0 && nat_le IMAGE_START entry
 
 abbrev pub has_entry : Data → Bool
 has_entry image = option_map_or (enters (pages_at image)) (entry_at image) false
@@ -64,16 +65,16 @@ abbrev pub page_of : Data → Option ImagePage
 page_of page = option_and_then (λ perms. option_map (λ bytes. record { perms = perms; bytes = page_of_bytes bytes }) (bytes_at page)) (perms_at page)
 
 -- a page for each item
-abbrev pub pages_of : List Data → Option (List ImagePage)
-pages_of [] = Some []
-pages_of (d ∷ ds) = option_and_then (λ page. option_map (λ pages. page ∷ pages) (pages_of ds)) (page_of d)
+abbrev pub image_pages_of : List Data → Option (List ImagePage)
+image_pages_of [] = Some []
+image_pages_of (d ∷ ds) = option_and_then (λ page. option_map (λ pages. page ∷ pages) (image_pages_of ds)) (page_of d)
 
 abbrev pub image_from : Option ℕ → List ImagePage → Option Image
 image_from None pages = None
 image_from (Some entry) pages = if is_entry (length pages) entry && is_within 1 256 (length pages) then Some (record { entry = entry; pages = pages }) else None
 
 abbrev pub image_of : Data → Option Image
-image_of image = option_and_then (image_from (entry_at image)) (pages_of (pages_in image))
+image_of image = option_and_then (image_from (entry_at image)) (image_pages_of (pages_in image))
 
 -- ---- the rules
 

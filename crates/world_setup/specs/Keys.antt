@@ -2,7 +2,7 @@
 use Rattle.std.specs.Prelude.{ℕ, ◌&&◌, Bool, List, [], ◌∷◌, Option, codes}
 use Rattle.std.specs.List.{list_all}
 use Rattle.toml.specs.Data.{Data, Members, get_member}
-use Rattle.world_setup.specs.Walk.{has_only, members_in, items_at}
+use Rattle.world_setup.specs.TomlData.{has_only, members_in, items_at}
 
 unfoldable pub top_keys : List (List ℕ)
 top_keys =

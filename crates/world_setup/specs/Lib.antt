@@ -1,6 +1,6 @@
 pub mod Checked
 pub mod Answers
-pub mod Walk
+pub mod TomlData
 pub mod Keys
 pub mod Numbers
 pub mod Images
@@ -13,4 +13,4 @@ pub mod PageLists
 pub mod Forms
 pub mod Entries
 pub mod Order
-pub mod Faults
+pub mod References

@@ -7,7 +7,7 @@ use Rattle.pl_history.specs.declared.setup.ChoiceName.TheVariants.{Oldest, Least
 use Rattle.pl_history.specs.Rules.{guarded_of, pages_of}
 use Rattle.world_setup.specs.declared.numbers.Numbers.{Numbers}
 use Rattle.world_setup.specs.Checked.{Checked, ◌>>=◌, unless, some_of}
-use Rattle.world_setup.specs.Walk.{number_in, text_at}
+use Rattle.world_setup.specs.TomlData.{number_in, text_at}
 
 -- the whole number at a key, from `low` to `high`
 abbrev pub number_at : List ℕ → ℕ → ℕ → Members → Option ℕ

@@ -3,7 +3,7 @@ use Rattle.std.specs.Prelude.{ℕ, ◌+◌, ◌-◌, nat_le, List, [], ◌∷◌
 use Rattle.std.specs.List.{flat_map, range_with_len}
 use Rattle.std.specs.Str.{bytes_eq}
 use Rattle.world_setup.specs.Words.{parts_of}
-use Rattle.world_setup.specs.Arguments.{number_of}
+use Rattle.world_setup.specs.Arguments.{small_number_of}
 use Rattle.world_setup.specs.declared.page_lists.PageRange.{PageRange}
 
 -- the pages from the first to the last
@@ -13,8 +13,8 @@ range_from _ _ = None
 
 -- `a`, or `a-b`
 abbrev pub range_of_parts : List (List ℕ) → Option PageRange
-range_of_parts (page ∷ []) = range_from (number_of page) (number_of page)
-range_of_parts (first ∷ last ∷ []) = range_from (number_of first) (number_of last)
+range_of_parts (page ∷ []) = range_from (small_number_of page) (small_number_of page)
+range_of_parts (first ∷ last ∷ []) = range_from (small_number_of first) (small_number_of last)
 range_of_parts _ = None
 
 -- cut at `-`
@@ -27,15 +27,15 @@ all_ranges [] = Some []
 all_ranges (text ∷ texts) = option_and_then (λ range. option_map (λ ranges. range ∷ ranges) (all_ranges texts)) (range_of text)
 
 -- how many pages a range has
-abbrev pub page_count : PageRange → ℕ
-page_count range = range.last + 1 - range.first
+abbrev pub range_length : PageRange → ℕ
+range_length range = range.last + 1 - range.first
 
 abbrev pub range_pages : PageRange → List ℕ
-range_pages range = range_with_len range.first (page_count range)
+range_pages range = range_with_len range.first (range_length range)
 
 -- the pages of all ranges, at most 512
 abbrev pub pages_of_ranges : List PageRange → Option (List ℕ)
-pages_of_ranges ranges = if nat_le (sum_by page_count ranges) 512 then Some (flat_map range_pages ranges) else None
+pages_of_ranges ranges = if nat_le (sum_by range_length ranges) 512 then Some (flat_map range_pages ranges) else None
 
 -- `-`, or ranges with commas between
 abbrev pub page_list_of : List ℕ → Option (List ℕ)

@@ -6,7 +6,7 @@ use Rattle.pl_base.specs.declared.actor.Actor.{Actor}
 use Rattle.rv_pmp.specs.declared.rule.Rule.{Rule}
 use Rattle.pl_history.specs.Rules.{is_within}
 use Rattle.world_setup.specs.Checked.{Checked}
-use Rattle.world_setup.specs.Walk.{list_of}
+use Rattle.world_setup.specs.TomlData.{list_of}
 use Rattle.world_setup.specs.Entries.{entry_of}
 use Rattle.world_setup.specs.Order.{order_of}
 

@@ -6,7 +6,7 @@ use Rattle.pl_history.specs.declared.line.Line.{Line}
 use Rattle.pl_history.specs.declared.line.AttackLine.{AttackLine}
 use Rattle.world_setup.specs.declared.scripts.Scripts.{Scripts}
 use Rattle.world_setup.specs.Checked.{Checked, ◌>>=◌, unless, none_at}
-use Rattle.world_setup.specs.Walk.{list_of, members_in, items_at, is_text}
+use Rattle.world_setup.specs.TomlData.{list_of, members_in, items_at, is_text}
 use Rattle.world_setup.specs.Keys.{harts_in}
 use Rattle.world_setup.specs.Forms.{line_of, attack_line_of}
 
@@ -66,8 +66,8 @@ forms_hold scripts attacks = do
   _ ← none_at (position_from has_no_form 0 scripts) 22
   none_at (option_map (λ at. length scripts + at) (position_from has_no_attack_form 0 attacks)) 22
 
-abbrev pub script_of : Data → List Line
-script_of hart = filter_map line_of (hart_texts hart)
+abbrev pub hart_lines : Data → List Line
+hart_lines hart = filter_map line_of (hart_texts hart)
 
 abbrev pub attack_script : Members → List AttackLine
 attack_script t = filter_map attack_line_of (attack_texts t)
@@ -77,7 +77,7 @@ scripts_of harts t = do
   _ ← scripts_hold harts t
   _ ← unless (nat_le (length (script_texts t) + length (attack_texts t)) 65536) 21
   _ ← forms_hold (script_texts t) (attack_texts t)
-  Ok (record { lines = map script_of (harts_in t); attacker = attack_script t })
+  Ok (record { lines = map hart_lines (harts_in t); attacker = attack_script t })
 
 -- each text became a line
 pub record IsRead (t : Members) (s : Scripts) : Type 0 where

@@ -9,13 +9,13 @@ use Rattle.pl_history.specs.Rules.{counts_of}
 use Rattle.world_setup.specs.declared.numbers.Numbers.{Numbers}
 use Rattle.world_setup.specs.declared.scripts.Scripts.{Scripts}
 use Rattle.world_setup.specs.Checked.{Checked, ◌>>=◌, unless, some_of, none_at}
-use Rattle.world_setup.specs.Walk.{table_of}
+use Rattle.world_setup.specs.TomlData.{table_of}
 use Rattle.world_setup.specs.Keys.{has_known_keys}
 use Rattle.world_setup.specs.Numbers.{numbers_of}
 use Rattle.world_setup.specs.Protection.{protection_of, order_at}
 use Rattle.world_setup.specs.Images.{images_of}
 use Rattle.world_setup.specs.Scripts.{scripts_of}
-use Rattle.world_setup.specs.Faults.{first_unknown, first_wait, first_attack}
+use Rattle.world_setup.specs.References.{first_unknown, first_wait, first_attack}
 
 -- Rules 23 and 24, over lines that were read: first the lines of the harts, then those of the attacker.
 unfoldable pub lines_known : Numbers → ℕ → Scripts → Checked (Unit {0})

@@ -3,7 +3,7 @@ ghost use Rattle.std.specs.Prelude.{◌≡◌, min, option_map, IfOk};
 ghost use Rattle.std.specs.List.{list_all};
 ghost use Rattle.pl_io.specs.Numbers.{is_hex_digit};
 ghost use Rattle.pl_history.specs.Rules.{is_name_character, is_name};
-ghost use Rattle.world_setup.specs.Arguments.{within, number_of, short_of, enclave_of, budget_of, length_of, address_of, perms_of_text, bytes_of_hex, hex_bytes_of, name_of};
+ghost use Rattle.world_setup.specs.Arguments.{within, small_number_of, short_of, enclave_of, budget_of, length_of, address_of, perms_of_text, bytes_of_hex, hex_bytes_of, name_of};
 
 use hex::FromHexError;
 use pl_base::{EncNo, Listed, Memory, Perms, Va};
@@ -13,7 +13,7 @@ use std::alloc::Global;
 // The most bytes of a page, or of a line.
 const MOST_BYTES: usize = 4096;
 
-// A number from `low` to `high`.
+/// A number from `low` to `high`.
 pub(crate) fn within(low: u32, high: u32, number: Option<u64>) -> Option<u32>
     ensures { result ≡ within low high number }
 {
@@ -23,48 +23,50 @@ pub(crate) fn within(low: u32, high: u32, number: Option<u64>) -> Option<u32>
     }
 }
 
-// A decimal number below 2^32.
-pub(crate) fn number_of(text: &[u8]) -> Option<u32>
-    ensures { result ≡ number_of text.now }
+/// A decimal number below 2^32.
+pub(crate) fn small_number_of(text: &[u8]) -> Option<u32>
+    ensures { result ≡ small_number_of text.now }
 {
     within(0, u32::MAX, read_dec(text))
 }
 
-// The same, of which 255 and more are one: no enclave, image or actor has such a number.
+/// The same, of which 255 and more are one: no enclave, image or actor has such a number.
 pub(crate) fn short_of(text: &[u8]) -> Option<u8>
     ensures { result ≡ short_of text.now }
 {
-    let number = number_of(text)?;
+    let number = small_number_of(text)?;
     Some(number.min(255) as u8)
 }
 
+/// An enclave number; 255 stands for 255 and more.
 pub(crate) fn enclave_of(text: &[u8]) -> Option<EncNo>
     ensures { result ≡ enclave_of text.now }
 {
     Some(EncNo(short_of(text)?))
 }
 
-// A number of instructions, at least 1.
+/// A number of instructions, at least 1.
 pub(crate) fn budget_of(text: &[u8]) -> Option<u32>
     ensures { result ≡ budget_of text.now }
 {
     within(1, u32::MAX, read_dec(text))
 }
 
-// A number of bytes, 1 to 4,096.
+/// A number of bytes, 1 to 4,096.
 pub(crate) fn length_of(text: &[u8]) -> Option<u32>
     ensures { result ≡ length_of text.now }
 {
     within(1, 4096, read_dec(text))
 }
 
-// An address of the host, in hexadecimal.
+/// An address of the host, in hexadecimal.
 pub(crate) fn address_of(text: &[u8]) -> Option<Va>
     ensures { result ≡ address_of text.now }
 {
     Some(Va(read_hex(text)?))
 }
 
+/// `r`, `rw`, `rx` or `rwx`.
 pub(crate) fn perms_of_text(text: &[u8]) -> Option<Perms>
     ensures { result ≡ perms_of_text text.now }
 {
@@ -83,13 +85,14 @@ fn is_hex_digit(byte: u8) -> bool
     matches!(byte, b'0'..=b'9' | b'a'..=b'f')
 }
 
+/// Whether each byte is one of `0-9a-f`.
 pub(crate) fn are_hex_digits(text: &[u8]) -> bool
     ensures { result ≡ list_all is_hex_digit text.now }
 {
     text.iter().all(|byte| is_hex_digit(*byte))
 }
 
-// At most 4,096 bytes, two digits `0-9a-f` each.
+/// At most 4,096 bytes, two digits `0-9a-f` each.
 pub(crate) fn bytes_of_hex(alloc: Global, text: &[u8]) -> Result<Option<Vec<u8>>, Memory>
     ensures { IfOk result (λ found. option_map (λ v. v.items) found ≡ bytes_of_hex text.now) }
 {
@@ -103,7 +106,7 @@ pub(crate) fn bytes_of_hex(alloc: Global, text: &[u8]) -> Result<Option<Vec<u8>>
     }
 }
 
-// The same, at least one.
+/// The same, at least one.
 pub(crate) fn hex_bytes_of(alloc: Global, text: &[u8]) -> Result<Option<Listed<u8>>, Memory>
     ensures { IfOk result (λ found. found ≡ hex_bytes_of text.now) }
 {
@@ -134,7 +137,7 @@ fn is_name(text: &[u8]) -> bool
     !text.is_empty() && text.len() <= 16 && are_name_characters(text)
 }
 
-// 1 to 16 of `a-z` and `0-9`.
+/// 1 to 16 of `a-z` and `0-9`.
 pub(crate) fn name_of(alloc: Global, text: &[u8]) -> Result<Option<Listed<u8>>, Memory>
     ensures { IfOk result (λ found. found ≡ name_of text.now) }
 {

@@ -16,6 +16,9 @@ pub enum SetupFault {
     /// The first rule that fails, 1 to 24, and the position of its item, from 0.
     #[error("bad setup {rule} {item}")]
     Bad { rule: u8, item: u32 },
+    /// Rule 2 fails, for the cause that the parser gives.
+    #[error("bad setup 2 0: {0}")]
+    NotToml(toml::de::Error),
 }
 
 impl From<Memory> for SetupFault {
@@ -48,7 +51,7 @@ impl<T: Drop> From<AllocFailed<T>> for SetupFault {
     }
 }
 
-// The rule fails where the test does.
+/// The rule fails where the test does.
 pub(crate) fn unless(test: bool, rule: u8) -> Result<(), SetupFault>
     ensures { Answers (unless test rule) result }
 {
@@ -58,7 +61,7 @@ pub(crate) fn unless(test: bool, rule: u8) -> Result<(), SetupFault>
     Err(SetupFault::Bad { rule, item: 0 })
 }
 
-// The rule fails where there is no value.
+/// The rule fails where there is no value.
 pub(crate) fn some_of<T: Drop>(found: Option<T>, rule: u8) -> Result<T, SetupFault>
     ensures { Answers (some_of found rule) result }
 {
@@ -68,7 +71,7 @@ pub(crate) fn some_of<T: Drop>(found: Option<T>, rule: u8) -> Result<T, SetupFau
     }
 }
 
-// The rule fails at the position that was found.
+/// The rule fails at the position that was found.
 pub(crate) fn none_at(found: Option<usize>, rule: u8) -> Result<(), SetupFault>
     requires { IfSome found (λ at. at < 2 ^ 32) }
     ensures { Answers (none_at found rule) result }
@@ -82,7 +85,7 @@ pub(crate) fn none_at(found: Option<usize>, rule: u8) -> Result<(), SetupFault>
     }
 }
 
-// A position that was found, with so many before.
+/// A position that was found, with so many before.
 pub(crate) fn after(before: usize, found: Option<usize>) -> Option<usize>
     requires { IfSome found (λ at. before + at < 2 ^ 32) }
     ensures value { result ≡ option_map (λ at. before + at) found }
@@ -94,7 +97,7 @@ pub(crate) fn after(before: usize, found: Option<usize>) -> Option<usize>
     }
 }
 
-// The same position, as a `usize`.
+/// The same position, as a `usize`.
 pub(crate) fn wide(found: Option<u32>) -> Option<usize>
     ensures value { result ≡ found }
     ensures small { IfSome result (λ at. at < 2 ^ 32) }

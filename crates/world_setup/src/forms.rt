@@ -3,8 +3,8 @@ ghost use Rattle.std.specs.Prelude.{◌≡◌, IfOk};
 ghost use Rattle.world_setup.specs.Forms.{line_of_one, line_of_two, map_line_of, line_of_pages, line_of_three, line_of, attack_line_of_one, after_line_of, attack_line_of_two, attack_line_of_three, attack_line_of};
 
 use crate::arguments::{
-    address_of, budget_of, enclave_of, hex_bytes_of, length_of, name_of, number_of, perms_of_text,
-    short_of,
+    address_of, budget_of, enclave_of, hex_bytes_of, length_of, name_of, perms_of_text, short_of,
+    small_number_of,
 };
 use crate::page_lists::page_list_of;
 use crate::words::{FewWords, few_words};
@@ -48,7 +48,7 @@ fn line_of_two(word: &[u8], a: &[u8], b: &[u8]) -> Option<Line>
     if word == b"grant".as_slice() {
         return Some(Line::Grant {
             e: enclave_of(a)?,
-            page: number_of(b)?,
+            page: small_number_of(b)?,
         });
     }
     if word == b"run".as_slice() {
@@ -72,7 +72,7 @@ fn line_of_two(word: &[u8], a: &[u8], b: &[u8]) -> Option<Line>
     if word == b"after".as_slice() {
         return Some(Line::After {
             actor: short_of(a)?,
-            count: number_of(b)?,
+            count: small_number_of(b)?,
         });
     }
     None
@@ -111,7 +111,7 @@ fn map_line_of(a: &[u8], b: &[u8], c: &[u8]) -> Option<Line>
 {
     Some(Line::Map {
         va: address_of(a)?,
-        page: number_of(b)?,
+        page: small_number_of(b)?,
         perms: perms_of_text(c)?,
     })
 }
@@ -164,7 +164,7 @@ fn after_line_of(a: &[u8], b: &[u8]) -> Option<AttackLine>
 {
     Some(AttackLine::After {
         actor: short_of(a)?,
-        count: number_of(b)?,
+        count: small_number_of(b)?,
     })
 }
 

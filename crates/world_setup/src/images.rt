@@ -7,20 +7,17 @@ ghost use Rattle.pl_history.specs.Rules.{is_entry};
 ghost use Rattle.world_setup.specs.Arguments.{bytes_of_hex};
 ghost use Rattle.world_setup.specs.Answers.{Answers};
 ghost use Rattle.world_setup.specs.Keys.{images_in, pages_in};
-ghost use Rattle.world_setup.specs.Images.{is_image_array, entry_at, enters, has_entry, is_page_array, has_pages, perms_at, bytes_at, has_perms, has_bytes, page_of_bytes, page_of, pages_of, image_from, image_of, pages_hold, images_hold, images_of};
+ghost use Rattle.world_setup.specs.Images.{is_image_array, entry_at, enters, has_entry, is_page_array, has_pages, perms_at, bytes_at, has_perms, has_bytes, page_of_bytes, page_of, image_pages_of, image_from, image_of, pages_hold, images_hold, images_of};
 
 use crate::arguments::{are_hex_digits, bytes_of_hex, perms_of_text};
 use crate::fault::{SetupFault, none_at, unless};
 use crate::keys::pages_in;
-use crate::walk::{are_tables, items_at, member, member_of, text_of};
+use crate::toml_data::{are_tables, items_at, member, member_of, text_of};
 use mon_image::{Image, ImagePage, ImagePages, PageBytes};
-use pl_base::{Listed, Memory, Perms};
+use pl_base::{IMAGE_START, Listed, Memory, PAGE_BYTES, Perms};
 use pl_io::read_hex;
 use std::alloc::Global;
 use toml::{Table, Value};
-
-// The size of a page, in bytes.
-const PAGE_SIZE: usize = 4096;
 
 // Absent, or an array of at most 64 tables.
 #[tactic(auto, using(crate::proofs::ViewRules::views))]
@@ -44,7 +41,7 @@ fn entry_at(image: &Value) -> Option<u64>
 fn is_entry(pages: usize, entry: u64) -> bool
     ensures { result ≡ is_entry pages entry }
 {
-    entry % 4 == 0 && 0x10000 <= entry && (entry - 0x10000) / 4096 < pages as u64
+    entry % 4 == 0 && IMAGE_START <= entry && (entry - IMAGE_START) / PAGE_BYTES < pages as u64
 }
 
 // The same, or where the image has no array of pages, a multiple of 4 from 0x10000 on.
@@ -54,7 +51,7 @@ fn enters(pages: Option<&Value>, entry: u64) -> bool
 {
     match pages {
         Some(Value::Array(items)) => is_entry(items.len(), entry),
-        _ => entry % 4 == 0 && 0x10000 <= entry,
+        _ => entry % 4 == 0 && IMAGE_START <= entry,
     }
 }
 
@@ -112,7 +109,7 @@ fn has_perms(page: &Value) -> bool
 fn is_hex_text(text: &[u8]) -> bool
     ensures { result ≡ is_some (bytes_of_hex text.now) }
 {
-    text.len() % 2 == 0 && text.len() <= 2 * PAGE_SIZE && are_hex_digits(text)
+    text.len() % 2 == 0 && text.len() <= 2 * PAGE_BYTES as usize && are_hex_digits(text)
 }
 
 fn has_bytes(page: &Value) -> bool
@@ -128,7 +125,7 @@ fn has_bytes(page: &Value) -> bool
 fn page_of_bytes(mut bytes: Vec<u8>) -> Result<PageBytes, Memory>
     ensures { IfOk result (λ page. page ≡ page_of_bytes bytes.items) }
 {
-    bytes.resize(PAGE_SIZE, 0)?;
+    bytes.resize(PAGE_BYTES as usize, 0)?;
     Ok(PageBytes::new(bytes))
 }
 
@@ -146,8 +143,8 @@ fn page_of(alloc: Global, page: &Value) -> Result<Option<ImagePage>, Memory>
 }
 
 // A page for each item.
-fn pages_of(alloc: Global, items: &[Value]) -> Result<Option<Vec<ImagePage>>, Memory>
-    ensures { IfOk result (λ found. option_map (λ v. v.items) found ≡ pages_of (map view items.now)) }
+fn image_pages_of(alloc: Global, items: &[Value]) -> Result<Option<Vec<ImagePage>>, Memory>
+    ensures { IfOk result (λ found. option_map (λ v. v.items) found ≡ image_pages_of (map view items.now)) }
 {
     let mut pages = Vec::new(alloc);
     for item in items {
@@ -175,7 +172,7 @@ fn image_from(entry: Option<u64>, pages: Vec<ImagePage>) -> Option<Image>
 fn image_of(alloc: Global, image: &Value) -> Result<Option<Image>, Memory>
     ensures { IfOk result (λ found. found ≡ image_of (view image.now)) }
 {
-    match pages_of(alloc, pages_in(image))? {
+    match image_pages_of(alloc, pages_in(image))? {
         Some(pages) => Ok(image_from(entry_at(image), pages)),
         None => Ok(None),
     }
@@ -324,7 +321,7 @@ fn all_images(alloc: Global, table: &Table) -> Result<Listed<Image>, Memory>
     gather_images(alloc, items_at(table, "image"))
 }
 
-// The images of a setup.
+/// The images of a setup.
 #[tactic(auto, using(crate::proofs::Chains::fault_on), unfolding(crate::specs::Images::images_of))]
 pub(crate) fn images_of(alloc: Global, table: &Table) -> Result<Listed<Image>, SetupFault>
     ensures images { Answers (images_of (table_view table.now)) result }

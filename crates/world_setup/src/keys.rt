@@ -2,13 +2,13 @@
 ghost use Rattle.std.specs.Prelude.{◌≡◌, map};
 ghost use Rattle.std.specs.List.{list_all};
 ghost use Rattle.toml.specs.View.{view, table_view};
-ghost use Rattle.world_setup.specs.Walk.{has_only};
+ghost use Rattle.world_setup.specs.TomlData.{has_only};
 ghost use Rattle.world_setup.specs.Keys.{top_keys, hart_keys, page_keys, table_has_only, images_in, harts_in, pages_in, is_known_image, has_known_keys};
 
-use crate::walk::{has_only, items_at, items_of, member_of};
+use crate::toml_data::{has_only, items_at, items_of, member_of};
 use toml::{Table, Value};
 
-// The pages of an image.
+/// The pages of an image.
 pub(crate) fn pages_in(image: &Value) -> &[Value]
     ensures { map view result.now ≡ pages_in (view image.now) }
 {
@@ -78,7 +78,7 @@ fn has_top_keys(table: &Table) -> bool
     )
 }
 
-// Whether no other key stands in the top table, in an image, in a page or in a hart.
+/// Whether no other key stands in the top table, in an image, in a page or in a hart.
 pub(crate) fn has_known_keys(table: &Table) -> bool
     ensures { result ≡ has_known_keys (table_view table.now) }
 {

@@ -4,9 +4,6 @@
 mod arguments;
 mod entries;
 mod fault;
-mod faults;
-#[cfg(test)]
-mod form_tests;
 mod forms;
 mod images;
 mod keys;
@@ -15,11 +12,14 @@ mod order;
 mod page_lists;
 mod protection;
 mod reading;
+mod references;
 mod scripts;
+mod sentences;
 #[cfg(test)]
 mod tests;
-mod walk;
+mod toml_data;
 mod words;
 
 pub use fault::SetupFault;
 pub use reading::{MOST_TEXT, read_setup};
+pub use sentences::{RuleText, rule_text};

@@ -3,15 +3,15 @@ ghost use Rattle.std.specs.Prelude.{◌≡◌, nat_lt, option_and_then, codes};
 ghost use Rattle.toml.specs.View.{table_view};
 ghost use Rattle.world_setup.specs.Answers.{Answers};
 ghost use Rattle.world_setup.specs.Numbers.{numbers_of, choice_of};
-ghost use Rattle.world_setup.specs.Walk.{text_at};
+ghost use Rattle.world_setup.specs.TomlData.{text_at};
 ghost use Rattle.pl_history.specs.Rules.{guarded_of, pages_of};
 
 use crate::fault::{SetupFault, some_of, unless};
-use crate::walk::{number_at, text_at};
+use crate::toml_data::{number_at, text_at};
 use pl_history::ChoiceName;
 use toml::Table;
 
-// The numbers of a setup, and the choice.
+/// The numbers of a setup, and the choice.
 #[derive(Clone, Copy)]
 pub(crate) struct Numbers {
     pub(crate) harts: u8,
@@ -45,6 +45,7 @@ fn leaves_pool(zones: u8, tables: u8, enclaves: u8) -> bool
     2 + u32::from(tables) + 3 * u32::from(enclaves) < 64 * u32::from(zones)
 }
 
+/// The numbers and the choice of a table, or the first of rules 4 to 11 that fails.
 #[tactic(auto, using(crate::proofs::Chains::fault_on), unfolding(crate::specs::Numbers::numbers_of))]
 pub(crate) fn numbers_of(table: &Table) -> Result<Numbers, SetupFault>
     ensures { Answers (numbers_of (table_view table.now)) result }

@@ -2,9 +2,9 @@
 ghost use Rattle.std.specs.Prelude.{◌≡◌, ◌++◌, nat_le, map, sum_by, option_map, Some, None, if◌then◌else◌, IfOk, OnOk};
 ghost use Rattle.std.specs.List.{flat_map};
 ghost use Rattle.world_setup.specs.Words.{parts_of};
-ghost use Rattle.world_setup.specs.PageLists.{range_from, range_of, all_ranges, page_count, range_pages, pages_of_ranges, page_list_of};
+ghost use Rattle.world_setup.specs.PageLists.{range_from, range_of, all_ranges, range_length, range_pages, pages_of_ranges, page_list_of};
 
-use crate::arguments::number_of;
+use crate::arguments::small_number_of;
 use crate::words::first_part;
 use pl_base::{Listed, Memory};
 use std::alloc::Global;
@@ -21,7 +21,7 @@ pub(crate) struct PageRange {
 
 impl PageRange {
     fn count(&self) -> u64
-        ensures { result ≡ page_count self.now }
+        ensures { result ≡ range_length self.now }
     {
         (u64::from(self.last) + 1).saturating_sub(u64::from(self.first))
     }
@@ -42,11 +42,11 @@ fn range_of(text: &[u8]) -> Option<PageRange>
 {
     let first = first_part(b'-', text);
     let Some(rest) = first.rest else {
-        return range_from(number_of(first.part), number_of(first.part));
+        return range_from(small_number_of(first.part), small_number_of(first.part));
     };
     let last = first_part(b'-', rest);
     match last.rest {
-        None => range_from(number_of(first.part), number_of(last.part)),
+        None => range_from(small_number_of(first.part), small_number_of(last.part)),
         Some(_) => None,
     }
 }
@@ -70,7 +70,7 @@ fn all_ranges(alloc: Global, text: &[u8]) -> Result<Option<Vec<PageRange>>, Memo
 
 // How many pages the ranges have together, where these are at most 512.
 fn few_pages(ranges: &[PageRange]) -> Option<u64>
-    ensures { result ≡ (if nat_le (sum_by page_count ranges.now) 512 then Some (sum_by page_count ranges.now) else None) }
+    ensures { result ≡ (if nat_le (sum_by range_length ranges.now) 512 then Some (sum_by range_length ranges.now) else None) }
 {
     let mut count = 0;
     for range in ranges {
@@ -105,7 +105,7 @@ fn spread(alloc: Global, ranges: &[PageRange], count: usize) -> Result<Vec<u32>,
     Ok(pages)
 }
 
-// `-`, or ranges with commas between. A range is counted before it is spread.
+/// `-`, or ranges with commas between. A range is counted before it is spread.
 pub(crate) fn page_list_of(alloc: Global, text: &[u8]) -> Result<Option<Listed<u32>>, Memory>
     ensures { IfOk result (λ found. found ≡ page_list_of text.now) }
 {

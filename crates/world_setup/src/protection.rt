@@ -7,7 +7,7 @@ ghost use Rattle.world_setup.specs.Protection.{entry_above, entries_from, entrie
 use crate::entries::entry_of;
 use crate::fault::SetupFault;
 use crate::order::order_of;
-use crate::walk::member;
+use crate::toml_data::member;
 use pl_base::{Actor, Listed};
 use rv_pmp::Rule;
 use std::alloc::Global;
@@ -58,7 +58,7 @@ fn entries_in(alloc: Global, value: Option<&Value>) -> Result<Listed<(u8, Rule)>
     }
 }
 
-// The protection entries of a setup.
+/// The protection entries of a setup.
 #[tactic(auto, unfolding(crate::specs::Protection::protection_of))]
 pub(crate) fn protection_of(alloc: Global, table: &Table) -> Result<Listed<(u8, Rule)>, SetupFault>
     ensures { Answers (protection_of (table_view table.now)) result }
@@ -79,7 +79,7 @@ fn order_in(alloc: Global, harts: u8, value: Option<&Value>) -> Result<Listed<Ac
     }
 }
 
-// The order of a setup's first turns.
+/// The order of a setup's first turns.
 #[tactic(auto, unfolding(crate::specs::Protection::order_at))]
 pub(crate) fn order_at(alloc: Global, harts: u8, table: &Table) -> Result<Listed<Actor>, SetupFault>
     ensures { Answers (order_at harts (table_view table.now)) result }

@@ -5,11 +5,11 @@ ghost use Rattle.world_setup.specs.Answers.{Answers};
 ghost use Rattle.world_setup.specs.SetupOf.{AreFew, lines_known, setup_of_table, setup_of};
 
 use crate::fault::{SetupFault, after, none_at, unless, wide};
-use crate::faults::{counts_of, first_attack, first_unknown, first_wait};
 use crate::images::images_of;
 use crate::keys::has_known_keys;
 use crate::numbers::{Numbers, numbers_of};
 use crate::protection::{order_at, protection_of};
+use crate::references::{counts_of, first_attack, first_unknown, first_wait};
 use crate::scripts::{Scripts, count_lines, scripts_of};
 use pl_history::{Setup, SetupParts};
 use std::alloc::Global;
@@ -80,11 +80,11 @@ pub fn read_setup(alloc: Global, bytes: &[u8]) -> Result<Setup, SetupFault>
     }
     match toml::table_from_slice(alloc, bytes) {
         Ok(table) => setup_of_table(alloc, &table),
-        Err(fault) => {
-            if fault.is_memory() {
+        Err(cause) => {
+            if cause.is_memory() {
                 return Err(SetupFault::Memory);
             }
-            Err(SetupFault::Bad { rule: 2, item: 0 })
+            Err(SetupFault::NotToml(cause))
         }
     }
 }

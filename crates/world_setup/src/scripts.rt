@@ -7,11 +7,11 @@ ghost use Rattle.toml.specs.View.{view, table_view};
 ghost use Rattle.world_setup.specs.Answers.{Answers};
 ghost use Rattle.world_setup.specs.Forms.{line_of, attack_line_of};
 ghost use Rattle.world_setup.specs.Keys.{harts_in};
-ghost use Rattle.world_setup.specs.Scripts.{is_script, has_script, is_hart_array, is_attack_array, texts_in, hart_texts, script_texts, attack_texts, has_no_form, has_no_attack_form, scripts_hold, forms_hold, script_of, attack_script, scripts_of, IsRead};
+ghost use Rattle.world_setup.specs.Scripts.{is_script, has_script, is_hart_array, is_attack_array, texts_in, hart_texts, script_texts, attack_texts, has_no_form, has_no_attack_form, scripts_hold, forms_hold, hart_lines, attack_script, scripts_of, IsRead};
 
 use crate::fault::{SetupFault, after, none_at, unless};
 use crate::forms::{attack_line_of, line_of};
-use crate::walk::{are_texts, items_at, items_of, member, member_of};
+use crate::toml_data::{are_texts, items_at, items_of, member, member_of};
 use pl_base::{Listed, Memory};
 use pl_history::{AttackLine, Line};
 use std::alloc::Global;
@@ -20,14 +20,14 @@ use toml::{Table, Value};
 // The most lines of all scripts.
 const MOST_LINES: usize = 65_536;
 
-// The scripts of a setup.
+/// The scripts of a setup.
 #[derive(Drop)]
 pub(crate) struct Scripts {
     pub(crate) lines: Listed<Listed<Line>>,
     pub(crate) attacker: Listed<AttackLine>,
 }
 
-// How many lines the harts have.
+/// How many lines the harts have.
 pub(crate) fn count_lines(scripts: &[Listed<Line>]) -> usize
     requires { sum_by length scripts.now ≤ 65536 }
     ensures { result ≡ sum_by length scripts.now }
@@ -267,8 +267,8 @@ fn gather_lines(alloc: Global, texts: &[&str]) -> Result<Listed<Line>, Memory>
 }
 
 // The script of a hart.
-fn script_of(alloc: Global, hart: &Value) -> Result<Listed<Line>, Memory>
-    ensures { IfOk result (λ lines. lines ≡ script_of (view hart.now)) }
+fn hart_lines(alloc: Global, hart: &Value) -> Result<Listed<Line>, Memory>
+    ensures { IfOk result (λ lines. lines ≡ hart_lines (view hart.now)) }
 {
     let texts = hart_texts(alloc, hart)?;
     let lines = gather_lines(alloc, texts.as_slice())?;
@@ -276,18 +276,18 @@ fn script_of(alloc: Global, hart: &Value) -> Result<Listed<Line>, Memory>
 }
 
 fn gather_scripts(alloc: Global, harts: &[Value]) -> Result<Listed<Listed<Line>>, Memory>
-    ensures { IfOk result (λ scripts. scripts ≡ map (λ v. script_of (view v)) harts.now) }
+    ensures { IfOk result (λ scripts. scripts ≡ map (λ v. hart_lines (view v)) harts.now) }
 {
     let mut all = Vec::new(alloc);
     for hart in harts {
-        all.push(script_of(alloc, hart)?)?;
+        all.push(hart_lines(alloc, hart)?)?;
     }
     Ok(Listed::from_vec(all))
 }
 
 // The scripts of all harts.
 fn all_scripts(alloc: Global, table: &Table) -> Result<Listed<Listed<Line>>, Memory>
-    ensures { IfOk result (λ scripts. scripts ≡ map script_of (harts_in (table_view table.now))) }
+    ensures { IfOk result (λ scripts. scripts ≡ map hart_lines (harts_in (table_view table.now))) }
 {
     let scripts = gather_scripts(alloc, items_at(table, "hart"))?;
     Ok(scripts)
@@ -322,7 +322,7 @@ fn attack_script(alloc: Global, table: &Table) -> Result<Listed<AttackLine>, Mem
     Ok(lines)
 }
 
-// The scripts of a setup.
+/// The scripts of a setup.
 #[tactic(auto, using(crate::proofs::Chains::fault_on), unfolding(crate::specs::Scripts::scripts_of))]
 pub(crate) fn scripts_of(alloc: Global, harts: u8, table: &Table) -> Result<Scripts, SetupFault>
     ensures scripts { Answers (scripts_of harts (table_view table.now)) result }

@@ -9,13 +9,14 @@ fn first_place(byte: u8, text: &[u8]) -> Option<usize>
     text.iter().position(|b| *b == byte)
 }
 
-// The first part of a text, and what stands behind the byte that ends it.
+/// The first part of a text, and what stands behind the byte that ends it.
 #[derive(Clone, Copy)]
 pub(crate) struct FirstPart<'a> {
     pub(crate) part: &'a [u8],
     pub(crate) rest: Option<&'a [u8]>,
 }
 
+/// What stands before the first such byte, and after it.
 pub(crate) fn first_part(byte: u8, text: &[u8]) -> FirstPart<'_>
     ensures parts { parts_of byte text.now ≡ result.part.now ∷ parts_after byte (option_copied result.rest) }
     ensures shorter { IfSome result.rest (λ rest. length rest.now < length text.now) }
@@ -32,13 +33,14 @@ pub(crate) fn first_part(byte: u8, text: &[u8]) -> FirstPart<'_>
     }
 }
 
+/// What stands before the first space, and after it.
 pub(crate) fn first_word(text: &[u8]) -> FirstPart<'_>
     ensures { words_of text.now ≡ result.part.now ∷ words_after (option_copied result.rest) }
 {
     first_part(b' ', text)
 }
 
-// The words of a text that has two, three or four of them.
+/// The words of a text that has two, three or four of them.
 #[derive(Clone, Copy)]
 pub(crate) enum FewWords<'a> {
     Two(&'a [u8], &'a [u8]),
@@ -78,7 +80,7 @@ fn after_one<'a>(word: &'a [u8], text: &'a [u8]) -> FewWords<'a>
     }
 }
 
-// What stands behind a fourth word isn't read.
+/// What stands behind a fourth word isn't read.
 pub(crate) fn few_words(text: &[u8]) -> FewWords<'_>
     ensures { AreFew result (words_of text.now) }
 {

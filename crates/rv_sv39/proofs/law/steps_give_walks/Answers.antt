@@ -1,5 +1,8 @@
-use Rattle.rv_sv39.proofs.Walking.{steps_walk, walks_once, walk_is, walk_from, walks_onward}
+use Rattle.rv_sv39.proofs.Walking.{steps_walk, walks_once, walk_is, walk_from, walks_onward, steps_fit, steps_say}
 use Rattle.rv_sv39.proofs.law.steps_give_walks.Goals as goal
+
+pub returns-clause-fits : goal.returns-clause-fits
+returns-clause-fits c = steps_fit
 
 pub returns-clause-walk : goal.returns-clause-walk
 returns-clause-walk c = λ words root vpn mode kind. steps_walk words vpn mode kind 2 root.0
@@ -13,3 +16,6 @@ returns-clause-by_steps c = λ words vpn mode kind level table answer.
 
 pub returns-clause-onward : goal.returns-clause-onward
 returns-clause-onward c = λ words root vpn mode kind level table answer. walks_onward words vpn mode kind root level table answer
+
+pub returns-clause-says : goal.returns-clause-says
+returns-clause-says c = λ words root vpn mode kind. steps_say words vpn mode kind root

@@ -1,0 +1,101 @@
+-- The start words, one after another.
+use Rattle.std.proofs.Common.{◌≡◌, ◌≢◌, ℕ, zero, suc, ◌+◌, ◌*◌, ◌/◌, ◌%◌, ◌≤◌, ◌==◌, ◌&&◌, Bool, eqb, ltb, true, false, cond, [], ◌∷◌, ◌++◌, length, map, find, Option, Some, None, ap, sym, ◌∙◌, refl, arith, zero-add, inl, inr}
+use Rattle.std.specs.List.{range_with_len}
+use Rattle.std.specs.Option.{option_map_or, option_or}
+use Rattle.std.proofs.lemmas.Bool.{cases_Bool, cases_lt, cond-false, eqb-true, eqb-false, lt-ltb}
+use Rattle.std.proofs.lemmas.Bool.Decides.{nat_tests}
+use Rattle.std.proofs.lemmas.List.Folds.{find-append}
+use Rattle.std.proofs.lemmas.List.FromFn.{map-range_with_len_more, length-map-range_with_len}
+use Rattle.mon_tables.specs.SpaceWalks.{StartsEmpty, listed_word}
+use Rattle.mon_tables.specs.Tables.{start_words}
+use Rattle.mon_tables.specs.Words.{pointer_word}
+
+pub length-start_words : (n : ℕ) → length (start_words n) ≡ n + 1
+length-start_words n = let size = length-map-range_with_len (λ (i : ℕ). let w : ℕ × ℕ × ℕ = (1, 8 * i, pointer_word (2 + i)) in w) 0 n in omega (arith, size)
+
+pub start_words-more : (n : ℕ) → start_words (n + 1) ≡ start_words n ++ (1, 8 * n, pointer_word (2 + n)) ∷ []
+start_words-more n = ap (λ ws. (0, 0, pointer_word 1) ∷ ws) (map-range_with_len_more (λ (i : ℕ). let w : ℕ × ℕ × ℕ = (1, 8 * i, pointer_word (2 + i)) in w) 0 n n (zero-add n))
+
+-- ---- the words of the host's tables at the start
+
+at_start : ℕ → ℕ × ℕ × ℕ
+at_start i = (1, 8 * i, pointer_word (2 + i))
+
+is_at : ℕ → ℕ → ℕ × ℕ × ℕ → Bool
+is_at page offset w = w.0 == page && w.1 == offset
+
+at_start-more : (n : ℕ) → map at_start (range_with_len 0 (suc n)) ≡ map at_start (range_with_len 0 n) ++ at_start n ∷ []
+at_start-more n = let one : suc n ≡ n + 1 = omega arith in ap (λ m. map at_start (range_with_len 0 m)) one ∙ map-range_with_len_more at_start 0 n n (zero-add n)
+
+one_more : (page offset n : ℕ) → find (is_at page offset) (map at_start (range_with_len 0 (suc n)))
+    ≡ option_or (find (is_at page offset) (map at_start (range_with_len 0 n))) (cond (is_at page offset (at_start n)) (Some (at_start n)) None)
+one_more page offset n = ap (find (is_at page offset)) (at_start-more n) ∙ find-append (is_at page offset) (map at_start (range_with_len 0 n)) (at_start n ∷ [])
+
+-- in page 1 the k-th word is that of the k-th last-level table
+find_middle : (tables k : ℕ) → find (is_at 1 (8 * k)) (map at_start (range_with_len 0 tables)) ≡ cond (ltb k tables) (Some (at_start k)) None
+unfolding is_at at_start
+find_middle zero k = sym (cond-false _ _ _ (let no : ltb k 0 ≡ false = grind (arith, nat_tests) in no))
+find_middle (suc n) k = one_more 1 (8 * k) n ∙ (ap (λ o. option_or o (cond (is_at 1 (8 * k) (at_start n)) (Some (at_start n)) None)) (find_middle n k) ∙ elim (cases_lt k n) [
+  | inl before ↦
+      let there : ltb k n ≡ true = lt-ltb k n before in
+      let still : ltb k (suc n) ≡ true = lt-ltb k (suc n) (omega arith) in
+      rw (there, still) refl
+  | inr not_before ↦
+      let none : ltb k n ≡ false = grind (arith, nat_tests) in
+      rw none (last not_before)
+])
+  where
+    last : n ≤ k → cond (is_at 1 (8 * k) (at_start n)) (Some (at_start n)) None ≡ cond (ltb k (suc n)) (Some (at_start k)) None
+    last not_before = elim (cases_Bool (eqb n k)) [
+      | inl same ↦
+          let is : n ≡ k = eqb-true n k same in
+          let here : eqb (8 * n) (8 * k) ≡ true = grind (arith, nat_tests) in
+          let below : ltb k (suc n) ≡ true = lt-ltb k (suc n) (omega arith) in
+          rw (here, below) (ap (λ i. Some (at_start i)) is)
+      | inr other ↦
+          let apart : n ≢ k = eqb-false n k other in
+          let no : eqb (8 * n) (8 * k) ≡ false = grind (arith, nat_tests) in
+          let past : ltb k (suc n) ≡ false = grind (arith, nat_tests) in
+          rw (no, past) refl
+    ]
+
+-- none of them stands in another page
+find_elsewhere : (tables page offset : ℕ) → page ≢ 1 → find (is_at page offset) (map at_start (range_with_len 0 tables)) ≡ None
+unfolding is_at at_start
+find_elsewhere zero page offset other = refl
+find_elsewhere (suc n) page offset other = one_more page offset n ∙ (ap (λ o. option_or o (cond (is_at page offset (at_start n)) (Some (at_start n)) None)) (find_elsewhere n page offset other) ∙ last)
+  where
+    last : cond (is_at page offset (at_start n)) (Some (at_start n)) None ≡ None
+    last = let no : eqb 1 page ≡ false = grind (arith, nat_tests) in rw no refl
+
+value_of : Option (ℕ × ℕ × ℕ) → ℕ
+value_of o = option_map_or (λ (w : ℕ × ℕ × ℕ). w.2) o 0
+
+pub starts_empty : StartsEmpty
+unfolding is_at at_start value_of
+starts_empty tables words few start = record {
+  root = λ k small. start 0 k (omega arith) small ∙ first k;
+  middle = λ k small. start 1 k (omega arith) small ∙ (ap value_of (find_middle tables k) ∙ second k);
+  leaves = λ vpn below. start (2 + vpn / 512) (vpn % 512) (omega arith) (omega arith) ∙ third (2 + vpn / 512) (8 * (vpn % 512)) (omega arith);
+  past = λ vpn far. refl;
+}
+  where
+    first : (k : ℕ) → listed_word (start_words tables) 0 (8 * k) ≡ cond (eqb k 0) (pointer_word 1) 0
+    first k = elim (cases_Bool (eqb k 0)) [
+      | inl none ↦
+          let is : k ≡ 0 = eqb-true k 0 none in
+          let here : eqb 0 (8 * k) ≡ true = grind (arith, nat_tests) in
+          rw (none, here) refl
+      | inr some ↦
+          let apart : k ≢ 0 = eqb-false k 0 some in
+          let no : eqb 0 (8 * k) ≡ false = grind (arith, nat_tests) in
+          rw (some, no) (ap value_of (find_elsewhere tables 0 (8 * k) (λ p. let same : 0 ≡ 1 = p in omega arith)))
+    ]
+
+    second : (k : ℕ) → value_of (cond (ltb k tables) (Some (at_start k)) None) ≡ cond (ltb k tables) (pointer_word (2 + k)) 0
+    second k = elim (ltb k tables) as (λ b. value_of (cond b (Some (at_start k)) None) ≡ cond b (pointer_word (2 + k)) 0) [ true ↦ refl | false ↦ refl ]
+
+    third : (page offset : ℕ) → 2 ≤ page → listed_word (start_words tables) page offset ≡ 0
+    third page offset past =
+        let no : eqb 0 page ≡ false = grind (arith, nat_tests) in
+        rw no (ap value_of (find_elsewhere tables page offset (λ p. let same : page ≡ 1 = p in omega arith)))

@@ -1,0 +1,15 @@
+use Rattle.mon_tables.proofs.HostWalks.{host_walks, sets, clears}
+use Rattle.mon_tables.proofs.StartWords.{starts_empty}
+use Rattle.mon_tables.proofs.laws.host_tables_walk.Goals as goal
+
+pub returns-clause-walk : goal.returns-clause-walk
+returns-clause-walk c = λ tables words space few all stand vpn inside mode kind. host_walks tables words space few all stand vpn inside mode kind
+
+pub returns-clause-start : goal.returns-clause-start
+returns-clause-start c = starts_empty
+
+pub returns-clause-set : goal.returns-clause-set
+returns-clause-set c = sets
+
+pub returns-clause-clear : goal.returns-clause-clear
+returns-clause-clear c = clears

@@ -1,0 +1,16 @@
+// The rules that the top call tries, in words.
+use world_setup::RuleText;
+
+// Rule 99, which is tried last.
+const BUILT: RuleText = RuleText {
+    sentence: "not built yet are more than one hart, protection entries, and lines other than `create`, `run`, `resume`, `send` and `take`",
+    counted: "line (over hart 0, hart 1 and so on, then the attacker)",
+};
+
+/// The rule of this number in words, where there is one.
+pub fn rule_text(rule: u8) -> Option<RuleText> {
+    match rule {
+        99 => Some(BUILT),
+        _ => world_setup::rule_text(rule),
+    }
+}
