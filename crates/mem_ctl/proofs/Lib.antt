@@ -4,6 +4,9 @@ pub mod AskLemmas
 pub mod CallLemmas
 pub mod MountLemmas
 pub mod PageLemmas
+pub mod PagePlaces
+pub mod PageWrites
+pub mod PageCalls
 pub mod PathLoop
 pub mod ReadLemmas
 pub mod RenewedLemmas

@@ -5,6 +5,7 @@ mod broken;
 mod check;
 mod ctl;
 mod mount;
+mod pages;
 mod sealed;
 mod told;
 mod words;

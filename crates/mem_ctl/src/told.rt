@@ -109,7 +109,7 @@ impl<D: Digester, F> Ctl<D, F> {
     }
 
     /// Counts one use more of a mounted zone.
-    fn count(&mut self, zone: u8)
+    pub(crate) fn count(&mut self, zone: u8)
         requires { is_mounted self.old.0.mounted zone ≡ true }
         ensures { self.new ≡ (used self.old.0 zone, self.old.1) }
     {

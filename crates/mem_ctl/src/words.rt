@@ -5,6 +5,7 @@ ghost use Rattle.byteorder.specs.Endian.{little_number};
 ghost use Rattle.pl_base.specs.Bytes.{bytes_at};
 ghost use Rattle.pl_base.specs.Width.{is_width};
 ghost use Rattle.mem_geom.specs.Layout.{memory_size};
+ghost use Rattle.mem_geom.specs.PathPlaces.{word_places};
 ghost use Rattle.mem_slots.specs.Choices.{NamesPosition};
 ghost use Rattle.mem_slots.specs.Slots.{is_mounted};
 ghost use Rattle.mem_tree.specs.Words.{parts_of, word_path};
@@ -98,7 +99,7 @@ impl<D: Digester, F: Fn(&[SlotUse]) -> usize> Ctl<D, F> {
         requires block { block < 64 }
         requires choice { NamesPosition F.Fn self.old.1 }
         ensures ok { IfOk result (λ sealed. IsOpened (FnReturnsAt F.Fn self.old.1) D.digest_of page block self.old.0 sealed self.new.0) }
-        ensures err { IfErr result (λ broken. IsRefused (FnReturnsAt F.Fn self.old.1) D.digest_of page block self.old.0 broken self.new.0) }
+        ensures err { IfErr result (λ broken. IsRefused (FnReturnsAt F.Fn self.old.1) D.digest_of page (word_places page block) self.old.0 broken self.new.0) }
         ensures zones { self.new.0.zones ≡ self.old.0.zones }
         ensures choice { self.new.1 ≡ self.old.1 }
     {

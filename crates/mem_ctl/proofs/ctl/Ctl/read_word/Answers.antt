@@ -65,7 +65,7 @@ returns-in-Err-clause-call g c =
     let same = λ (x : CtlData). x in
     ⊎_elim
     (λ (m : IsCall gives (mounted_for d (page / 64)) old (outcome_of {A = Unit {0}} (Err b)) new). access_stops gives d page places value same old b new m)
-    (λ (h : IsRefusedThen gives d page (offset / 64) old b new).
+    (λ (h : IsRefusedThen gives d page places old b new).
     subst (IsCall gives (accessed d page places value same) old (outcome_of (Err b))) (sym h.now)
     (access_refused gives d page places value same old b h.between h.mounts (h.is ∙ ap (λ (w : CtlData). zone_check d w (page / 64) places) h.now)))
     c.in-Err.ensures.err

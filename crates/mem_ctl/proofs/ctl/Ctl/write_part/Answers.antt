@@ -76,7 +76,7 @@ returns-in-Err-clause-call g c =
     let change = λ (x : CtlData). with_part d (taken x) page b (c.args.offset % 64) (little_bytes c.args.width c.args.value) x in
     ⊎_elim
     (λ (m : IsCall gives (mounted_for d (page / 64)) old (outcome_of {A = Unit {0}} (Err broken)) new). access_stops gives d {A = Unit {0}} page places (λ (x : CtlData). tt) change old broken new m)
-    (λ (h : IsRefusedThen gives d page b old broken new).
+    (λ (h : IsRefusedThen gives d page places old broken new).
     subst (IsCall gives (accessed d {A = Unit {0}} page places (λ (x : CtlData). tt) change) old (outcome_of (Err broken))) (sym h.now)
     (access_refused gives d {A = Unit {0}} page places (λ (x : CtlData). tt) change old broken h.between h.mounts (h.is ∙ ap (λ (w : CtlData). zone_check d w (page / 64) places) h.now)))
     c.in-Err.ensures.err
