@@ -5,6 +5,7 @@ pub mod CallLemmas
 pub mod MountLemmas
 pub mod PageLemmas
 pub mod PagePlaces
+pub mod PageReads
 pub mod PageWrites
 pub mod PageCalls
 pub mod PathLoop

@@ -15,7 +15,7 @@ pub length-page_places : (page : ℕ) → length (page_places page) ≡ 75
 length-page_places page = omega (arith, length-append (level1_places page) (block_places page), length-level1_places page, length-block_places page)
 
 -- a place below the first three
-later : (page k : ℕ) → 3 ≤ k → page_place page k ≡ cond (nat_lt k 11) (Node 1 (page / 64) (8 * (page % 64) + (k - 3))) (Block page (k - 11))
+pub later : (page k : ℕ) → 3 ≤ k → page_place page k ≡ cond (nat_lt k 11) (Node 1 (page / 64) (8 * (page % 64) + (k - 3))) (Block page (k - 11))
 later page k past =
     cond-false (k == 0) _ _ (ne_eqb k 0 (λ h. absurd (omega arith))) ∙ cond-false (k == 1) _ _ (ne_eqb k 1 (λ h. absurd (omega arith))) ∙ cond-false (k == 2) _ _ (ne_eqb k 2 (λ h. absurd (omega arith)))
 

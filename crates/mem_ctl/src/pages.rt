@@ -2,6 +2,7 @@
 ghost use Rattle.std.specs.Prelude.{◌≡◌, ◌≤◌, ◌<◌, ◌*◌, ◌/◌, true, length, All, IfErr, OnErr, OnOk};
 ghost use Rattle.std.specs.Fn.{FnReturnsAt};
 ghost use Rattle.mem_geom.specs.Layout.{Exists, memory_size};
+ghost use Rattle.mem_geom.specs.Parts.{page_bytes};
 ghost use Rattle.mem_geom.specs.PathPlaces.{page_places, replaced_places};
 ghost use Rattle.mem_slots.specs.Choices.{NamesPosition};
 ghost use Rattle.mem_slots.specs.Slots.{is_mounted};
@@ -28,6 +29,7 @@ impl<D: Digester, F: Fn(&[SlotUse]) -> usize> Ctl<D, F> {
         requires page { page < 64 * self.old.0.zones }
         requires choice { NamesPosition F.Fn self.old.1 }
         ensures call { IsCall (FnReturnsAt F.Fn self.old.1) (get_page_of D.digest_of page) self.old.0 (got_outcome into.new result) self.new.0 }
+        ensures page { OnOk result (into.new ≡ page_bytes self.old.0.mirror page) }
         ensures err { OnErr result (into.new ≡ into.old) }
         ensures choice { self.new.1 ≡ self.old.1 }
     {
