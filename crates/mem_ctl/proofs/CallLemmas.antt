@@ -1,5 +1,5 @@
 -- A call after a call.
-use Rattle.std.proofs.Common.{◌≡◌, ℕ, ◌+◌, ◌-◌, ◌*◌, ◌/◌, ◌%◌, ◌<◌, ◌≤◌, ◌==◌, Bool, true, false, cond, List, [], ◌∷◌, ◌++◌, length, map, refl, subst, sym, ap, ◌∙◌, arith}
+use Rattle.std.proofs.Common.{◌≡◌, ℕ, ◌/◌, ◌%◌, ◌<◌, ◌≤◌, true, false, cond, List, [], ◌∷◌, length, map, refl, subst, sym, ap, ◌∙◌, arith}
 use Rattle.std.specs.Prelude.{nat_lt, remove, Err}
 use Rattle.std.proofs.lemmas.Bool.{cond-true, cond-false, le-ltb, lt-ltb}
 use Rattle.std.proofs.lemmas.List.{length-map}
@@ -12,8 +12,8 @@ use Rattle.mem_tree.specs.Changes.{at_place}
 use Rattle.mem_tree.specs.Checks.{Checked, Holds as AllHold, Fault as BreaksAt, Collision as CollidesAt}
 use Rattle.mem_ctl.specs.declared.broken.Broken.{Broken}
 use Rattle.mem_ctl.specs.declared.broken.Broken.TheVariants as broken
-use Rattle.mem_ctl.specs.Data.{CtlData, ctl_data, Going, Outcome, Value, Fault, Collision, Again, After, answer, and_then, go_on, going, if_holds}
-use Rattle.mem_ctl.specs.Mounting.{asked, evicted, evicted_at, mounted_anew, mounted_for, mounted_last, position_of, root_check, written_back}
+use Rattle.mem_ctl.specs.Data.{CtlData, ctl_data, Going, Outcome, Value, Fault, Collision, After, answer, and_then, go_on, going, if_holds}
+use Rattle.mem_ctl.specs.Mounting.{asked, evicted, evicted_at, mounted_anew, mounted_for, mounted_last, root_check, written_back}
 use Rattle.mem_ctl.specs.Results.{AreGiven, IsCall, checked_of, outcome_of}
 use Rattle.mem_ctl.specs.Writes.{with_place}
 

@@ -1,6 +1,12 @@
 -- A word that is read is the mirror's.
-use Rattle.std.proofs.Common.{◌≡◌, ℕ, ◌+◌, ◌-◌, ◌*◌, ◌/◌, ◌%◌, ◌<◌, ◌≤◌, Option, Some, None, is_some, List, [], length, refl, subst, sym, ap, ◌∙◌, arith}
-use Rattle.std.specs.Prelude.{true, false}
+use Rattle.mem_tree.specs.Paths.{first_break}
+use Rattle.mem_tree.specs.Words.{part_bytes}
+use Rattle.mem_ctl.specs.Calls.{with_part}
+use Rattle.mem_ctl.specs.Opened.{IsOpened}
+use Rattle.mem_ctl.specs.Words.{IsNewPath, stored}
+use Rattle.mem_ctl.proofs.WordCalls.{none_breaks, stored-parts, with_part-hold, with_part-parts}
+use Rattle.std.proofs.Common.{◌≡◌, ℕ, ◌+◌, ◌*◌, ◌/◌, ◌%◌, ◌<◌, ◌≤◌, Option, Some, None, is_some, List, [], length, refl, subst, sym, ap, ◌∙◌, arith}
+use Rattle.std.specs.Prelude.{true}
 use Rattle.std.specs.Option.{unwrap_or}
 use Rattle.std.proofs.lemmas.Bool.{false≢true}
 use Rattle.byteorder.specs.Endian.{little_number}
@@ -76,3 +82,26 @@ module _ (d : List ℕ → List ℕ) (law : (m : List ℕ) → length (d m) ≡ 
       let all = word_tells d law new k.trees page b (omega (arith, k.zones_kept)) (omega arith) mounted AllHold (sym holds) in
       sym (word_of_block new.zones new.off_chip page offset aligned) ∙ ap (λ (block : List ℕ). little_number 8 (bytes_at block (offset % 64) 8)) (all 4 (Block page b) (omega arith))
       ∙ word_of_block new.zones new.mirror page offset aligned ∙ same_words old.mirror new.mirror page offset inside aligned (k.pages_kept (page / 64) (omega arith))
+
+-- what a word's access has where its path holds, for a write
+module _ {D : _} (d : List ℕ → List ℕ) (law : (m : List ℕ) → length (d m) ≡ 32) (gives : List SlotUse → ℕ → Type 0) (old : CtlData) (kept : IsKept d old) (page : ℕ) (there : page < 64 * old.zones) (b : ℕ) (below : b < 64)
+    (t : Taken D) (new : CtlData) (h : IsOpened gives d page b old t new) where
+  pub opened-kept : Keeps d old new
+  opened-kept = subst (Keeps d old) (sym h.now) (opened-keeps d law gives old kept page there h.between h.mounts)
+
+  pub opened-holds : first_break d (taken_path t) ≡ None
+  opened-holds = none_breaks d (taken_path t) (written new) (taken_path t).places (sealed_check d new page b t below h.own_page h.own_block h.parts ∙ sym h.holds)
+
+  module _ (at : ℕ) (part : List ℕ) (inside : at + length part ≤ 64) (path : NewPath) (is : IsNewPath d (parts_of t) page b at part path) where
+    -- the parts that the code stores are what the write renews
+    pub opened-stored : with_part d (taken new) page b at part new ≡ stored new page b path
+    opened-stored =
+        with_part-parts d new (taken new) (slot_root new (page / 64)) page b at part ∙ ap (λ (q : NewPath). with_part d (part_bytes q) page b at part new) (sym h.parts)
+        ∙ stored-parts d new page b at part (parts_of t) path below is
+
+    pub opened-stored_kept : IsKept d (stored new page b path)
+    opened-stored_kept =
+        let same = word_tells d law new opened-kept.trees page b (omega (arith, opened-kept.zones_kept)) below h.mounted AllHold (sym h.holds) in
+        let trees : TreesHold d (stored new page b path) =
+        subst (TreesHold d) opened-stored (with_part-hold d law new opened-kept.trees page b (omega (arith, opened-kept.zones_kept)) below h.mounted (taken new) same at part inside) in
+        record { trees = trees; some = omega (arith, opened-kept.slots_kept, kept.some); few = omega (arith, opened-kept.slots_kept, kept.few) }

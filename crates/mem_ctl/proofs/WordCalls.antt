@@ -1,5 +1,12 @@
 -- Words: what a path that holds tells of them, and that a write of some of their bytes keeps the trees.
-use Rattle.std.proofs.Common.{◌≡◌, ℕ, ◌+◌, ◌-◌, ◌*◌, ◌/◌, ◌%◌, ◌<◌, ◌≤◌, List, [], ◌∷◌, length, map, take, drop, get_or, refl, subst, sym, ap, ◌∙◌, arith}
+use Rattle.std.proofs.Common.{Bool, false, cond, Some, None, find, IsTrue}
+use Rattle.std.proofs.lemmas.Bool.{cond-false}
+use Rattle.std.proofs.lemmas.Bool.Decides.{nat_tests}
+use Rattle.pl_base.specs.Width.{is_width}
+use Rattle.mem_tree.specs.Checks.{Fault, Collision, check_on, collides}
+use Rattle.mem_tree.specs.Paths.{Path, breaks}
+use Rattle.mem_tree.specs.Words.{IsPart}
+use Rattle.std.proofs.Common.{◌≡◌, ℕ, ◌+◌, ◌-◌, ◌*◌, ◌/◌, ◌%◌, ◌<◌, ◌≤◌, List, [], ◌∷◌, length, refl, subst, sym, ap, ◌∙◌, arith}
 use Rattle.std.specs.Prelude.{All, true}
 use Rattle.std.proofs.lemmas.List.Elements.{All-cons, All-nil}
 use Rattle.byteorder.specs.Endian.{little_number}
@@ -8,10 +15,10 @@ use Rattle.pl_base.specs.declared.place.Place.{Place}
 use Rattle.pl_base.specs.declared.place.Place.TheVariants.{Block, Node}
 use Rattle.pl_digest.specs.Nodes.{with_entry}
 use Rattle.pl_digest.specs.Trees.{piece, zone_root}
-use Rattle.mem_geom.specs.Layout.{memory_size, place_bytes}
+use Rattle.mem_geom.specs.Layout.{place_bytes}
 use Rattle.mem_geom.specs.PathPlaces.{word_places}
 use Rattle.mem_geom.proofs.Parts.{bytes_at-bytes_at}
-use Rattle.mem_slots.specs.Slots.{is_mounted, rooted_slot}
+use Rattle.mem_slots.specs.Slots.{is_mounted}
 use Rattle.mem_tree.specs.declared.new_path.NewPath.{NewPath}
 use Rattle.mem_tree.specs.Changes.{IsOfZone, PlaceBytes, above_block, at_place, renewed, renewed_root}
 use Rattle.mem_tree.specs.Checks.{Checked, Tells, check, Holds as AllHold}
@@ -24,7 +31,7 @@ use Rattle.mem_ctl.specs.Calls.{slot_root, with_part, with_root, zone_check}
 use Rattle.mem_ctl.specs.Data.{CtlData}
 use Rattle.mem_ctl.specs.Mounting.{put, taken, written}
 use Rattle.mem_ctl.specs.TreesHold.{TreesHold}
-use Rattle.mem_ctl.specs.Words.{IsNewPath, path_written, stored}
+use Rattle.mem_ctl.specs.Words.{IsNewPath, stored}
 use Rattle.mem_ctl.specs.Writes.{with_places, word_at, zone_pages}
 use Rattle.mem_ctl.proofs.RenewedLemmas.{renewed-alike, renewed_root-alike}
 use Rattle.mem_ctl.proofs.SlotLemmas.{root_found}
@@ -142,3 +149,24 @@ module _ (d : List ℕ → List ℕ) (law : (m : List ℕ) → length (d m) ≡ 
         (with_places x.zones x.off_chip wrote) (with_places x.zones x.mirror wrote) root
         (length-with_places x.zones wrote x.off_chip fit trees.sizes.off_chip_size)
         (word_update d law x.zones x.mirror trees.sizes.mirror_size trees.nodes page b at part there below inside) root_is)
+
+-- ---- parts, and paths whose check holds
+
+pub part_of : (width offset : ℕ) → IsTrue (is_width width) → offset % width ≡ 0 → IsPart (offset % 64) width
+part_of width offset is aligned = record { is_width = is; is_aligned = grind (arith, nat_tests); is_inside = grind (arith, nat_tests) }
+
+not_broken : (b : Bool) (p : Place) (rest : Checked) → cond b (Fault p) rest ≡ AllHold → (b ≡ false) × (rest ≡ AllHold)
+not_broken true p rest h = cc
+not_broken false p rest h = (refl, h)
+
+not_collided : (b : Bool) (p : Place) (s t : List ℕ) (rest : Checked) → cond b (Collision p s t) rest ≡ AllHold → rest ≡ AllHold
+not_collided true p s t rest h = cc
+not_collided false p s t rest h = h
+
+-- where a check holds, no place breaks
+pub none_breaks : (d : List ℕ → List ℕ) (path : Path) (written : Place → List ℕ) (ps : List Place) → check_on d path written ps ≡ AllHold → find (breaks d path) ps ≡ None
+none_breaks d path written [] h = refl
+none_breaks d path written (p ∷ ps) h =
+    let k = not_broken (breaks d path p) p (cond (collides d path written p) (Collision p (path.bytes p) (written p)) (check_on d path written ps)) h in
+    cond-false (breaks d path p) (Some p) (find (breaks d path) ps) k.0
+    ∙ none_breaks d path written ps (not_collided (collides d path written p) p (path.bytes p) (written p) (check_on d path written ps) k.1)

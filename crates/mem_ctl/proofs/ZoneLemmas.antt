@@ -7,7 +7,7 @@ use Rattle.std.proofs.lemmas.List.FromFn.{get_or-map-range_with_len, length-map-
 use Rattle.pl_base.specs.declared.place.Place.{Place}
 use Rattle.pl_base.specs.declared.place.Place.TheVariants.{Block, Node, RootNode}
 use Rattle.pl_digest.specs.Trees.{piece, zone_root}
-use Rattle.mem_geom.specs.Layout.{memory_size, place_bytes}
+use Rattle.mem_geom.specs.Layout.{Exists, memory_size, place_bytes}
 use Rattle.mem_geom.specs.Parts.{page_bytes}
 use Rattle.mem_geom.specs.PathPlaces.{block_places, level1_places, page_places, replaced_places, word_places}
 use Rattle.mem_geom.proofs.PartPlaces.{parts_are_places}
@@ -53,7 +53,7 @@ block_is memory zones page b below = parts_are_places.blocks zones page b memory
 
 -- ---- the places of a path are of its zone
 
-replaced-of_zone : (page : ℕ) → All (IsOfZone (page / 64)) (replaced_places page)
+pub replaced-of_zone : (page : ℕ) → All (IsOfZone (page / 64)) (replaced_places page)
 replaced-of_zone page =
     let P : Place → Type 0 = IsOfZone (page / 64) in
     let n3 : Place = Node 3 (page / 64) (page % 64 / 8) in
@@ -74,7 +74,7 @@ word-of_zone page b below =
     let n1 : Place = Node 1 (page / 64) (8 * (page % 64) + b / 8) in
     over_page-of_zone page (n1 ∷ Block page b ∷ []) (All-cons P n1 (Block page b ∷ []) (refl, omega arith) (All-cons P (Block page b) [] (refl, below) (All-nil P)))
 
-page-of_zone : (page : ℕ) → All (IsOfZone (page / 64)) (page_places page)
+pub page-of_zone : (page : ℕ) → All (IsOfZone (page / 64)) (page_places page)
 page-of_zone page =
     let P : Place → Type 0 = IsOfZone (page / 64) in
     over_page-of_zone page (level1_places page ++ block_places page)
@@ -118,3 +118,9 @@ module _ (d : List ℕ → List ℕ) (law : (m : List ℕ) → length (d m) ≡ 
 
     pub replaced_path-written : IsWrittenPath d (path_of root (replaced_places page) (place_bytes zones off_chip)) (place_bytes zones mirror)
     replaced_path-written = path-written (replaced_places page) (paths_are_top_down.replaced page) (replaced-of_zone page) ((paths_hold d law).replaced pages page zone_is)
+
+-- a zone's places exist, where the zone does
+pub of_zone-exists : (zones zone : ℕ) → zone < zones → (place : Place) → IsOfZone zone place → Exists zones place
+of_zone-exists zones zone there (Block page b) of = (omega (arith, of.0), of.1)
+of_zone-exists zones zone there (Node level own index) of = (omega (arith, of.0), of.1)
+of_zone-exists zones zone there (RootNode level index) of = absurd of

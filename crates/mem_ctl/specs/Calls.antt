@@ -46,6 +46,14 @@ pub data WordOp : Type 0 where
   Read : ℕ → WordOp
   Write : ℕ → ℕ → ℕ → WordOp
 
+abbrev pub op_offset : WordOp → ℕ
+op_offset (Read offset) = offset
+op_offset (Write offset width word) = offset
+
+-- a root is the one of the zone's slot
+abbrev pub root_stands : List ℕ → Option (List ℕ) → Bool
+root_stands root now = option_map_or (bytes_eq root) now Bool.false
+
 module _ (digest_of : List ℕ → List ℕ) where
   -- the check of a path in a mounted zone
   abbrev pub zone_check : CtlData → ℕ → List Place → Checked
@@ -98,14 +106,6 @@ module _ (digest_of : List ℕ → List ℕ) where
   abbrev pub told : TakenWord → WordOp → CtlData → CtlData
   told t (Read offset) x = x
   told t (Write offset width word) x = with_part (part_bytes t.parts) t.page t.block (offset % 64) (little_bytes width word) x
-
-  abbrev pub op_offset : WordOp → ℕ
-  op_offset (Read offset) = offset
-  op_offset (Write offset width word) = offset
-
-  -- a root is the one of the zone's slot
-  abbrev pub root_stands : List ℕ → Option (List ℕ) → Bool
-  root_stands root now = option_map_or (bytes_eq root) now Bool.false
 
   -- a path that breaks is refused by its check; where it holds and its root is another or none by now, it is asked again;
   -- else it is checked against the mirror, counts a use, answers the eight bytes that hold the part, and writes

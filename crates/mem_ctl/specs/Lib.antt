@@ -2,7 +2,9 @@ pub mod Calls
 pub mod Data
 pub mod Mounting
 pub mod Opened
+pub mod Pages
 pub mod Results
+pub mod Tellings
 pub mod TreesHold
 pub mod Words
 pub mod Writes

@@ -5,8 +5,11 @@ mod broken;
 mod check;
 mod ctl;
 mod mount;
+mod pages;
 mod sealed;
+mod told;
 mod words;
 
 pub use broken::{Broken, Collision};
 pub use ctl::Ctl;
+pub use told::{Op, Told};

@@ -4,7 +4,7 @@ use Rattle.pl_base.specs.declared.place.Place.{Place}
 use Rattle.pl_base.specs.declared.place.Place.TheVariants.{Block}
 use Rattle.mem_geom.specs.Layout.{place_bytes}
 use Rattle.mem_geom.specs.PathPlaces.{word_places}
-use Rattle.mem_tree.specs.Checks.{Checked, Holds, check, check_on}
+use Rattle.mem_tree.specs.Checks.{Holds, check_on}
 use Rattle.mem_tree.specs.Paths.{Path, breaks}
 use Rattle.mem_tree.specs.Words.{part_bytes, parts_of, taken_path}
 use Rattle.mem_ctl.specs.Results.{checked_of, is_break, part_checked}

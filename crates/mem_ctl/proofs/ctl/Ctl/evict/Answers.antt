@@ -1,13 +1,13 @@
 use Rattle.std.proofs.Common.{◌≡◌, ℕ, ◌<◌, List, [], length, map, get_or, rules, arith, ap, ◌∙◌, sym, subst}
-use Rattle.std.specs.Prelude.{false, slice_index_or, Err}
+use Rattle.std.specs.Prelude.{slice_index_or, Err}
 use Rattle.mem_ctl.specs.Results.{IsCall, checked_of}
 use Rattle.std.specs.Fn.{FnReturnsAt}
-use Rattle.std.proofs.lemmas.List.{get_or-map, length-map}
+use Rattle.std.proofs.lemmas.List.{get_or-map}
 use Rattle.std.proofs.lemmas.List.Edits.{length-remove}
 use Rattle.mem_tree.specs.Checks.{Holds as AllHold}
 use Rattle.mem_slots.specs.declared.slot_use.SlotUse.{SlotUse}
 use Rattle.mem_ctl.specs.Data.{CtlData, Value, ctl_data}
-use Rattle.mem_slots.specs.Slots.{Slot, SlotList, is_mounted, slot, slot_at, use_of}
+use Rattle.mem_slots.specs.Slots.{SlotList, is_mounted, slot, slot_at, use_of}
 use Rattle.mem_ctl.specs.Mounting.{evicted, evicted_at, root_check}
 use Rattle.mem_ctl.specs.TreesHold.{IsKept}
 use Rattle.mem_ctl.proofs.CallLemmas.{Evicts, evicts, evict_stops, evict_goes}

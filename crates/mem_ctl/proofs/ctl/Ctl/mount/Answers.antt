@@ -1,8 +1,7 @@
-use Rattle.std.proofs.Common.{◌≡◌, ◌<◌, ◌≤◌, ℕ, List, length, rules, arith, ap, ◌∙◌, sym}
+use Rattle.std.proofs.Common.{◌≡◌, ℕ, rules, ◌∙◌, sym}
 use Rattle.std.specs.Fn.{FnReturnsAt}
 use Rattle.std.specs.Prelude.{false}
 use Rattle.mem_slots.specs.Slots.{is_mounted}
-use Rattle.mem_ctl.specs.Data.{CtlData}
 use Rattle.mem_ctl.proofs.CallLemmas.{already_mounted, mounts_anew, eviction_stops, eviction_goes}
 use Rattle.mem_ctl.proofs.SlotLemmas.{is_some-root_of}
 use Rattle.mem_ctl.proofs.ctl.Ctl.mount.Goals as goal

@@ -1,8 +1,8 @@
-use Rattle.std.proofs.Common.{◌≡◌, ℕ, List, rules, arith, ap, ◌∙◌, sym}
+use Rattle.std.proofs.Common.{◌≡◌, rules, ap, ◌∙◌, sym}
 use Rattle.std.specs.Prelude.{◌<◌, false, length}
 use Rattle.std.specs.Fn.{FnReturnsAt}
 use Rattle.mem_ctl.specs.Data.{CtlData, ctl_data}
-use Rattle.mem_slots.specs.Slots.{Slot, SlotList, is_mounted, slot, slot_at, use_of}
+use Rattle.mem_slots.specs.Slots.{is_mounted}
 use Rattle.mem_ctl.specs.Mounting.{mounted_last, root_check}
 use Rattle.mem_ctl.proofs.CallLemmas.{anew_stops, anew_goes}
 use Rattle.mem_ctl.proofs.MountLemmas.{mounted_last-keeps}

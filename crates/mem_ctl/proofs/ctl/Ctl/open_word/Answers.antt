@@ -1,4 +1,4 @@
-use Rattle.std.proofs.Common.{◌≡◌, ℕ, ◌/◌, List, [], map, true, rules, ap, ◌∙◌, sym, subst}
+use Rattle.std.proofs.Common.{◌≡◌, ℕ, ◌/◌, List, [], true, rules, ap, ◌∙◌, sym, subst}
 use Rattle.std.specs.Prelude.{Err}
 use mathlib.Core.Logic.{inr}
 use Rattle.std.specs.Fn.{FnReturnsAt}
@@ -6,10 +6,9 @@ use Rattle.mem_geom.specs.Layout.{place_bytes}
 use Rattle.mem_slots.specs.declared.slot_use.SlotUse.{SlotUse}
 use Rattle.mem_slots.specs.Slots.{SlotList, is_mounted, used_slot}
 use Rattle.mem_tree.specs.Checks.{check, Holds as AllHold}
-use Rattle.mem_tree.specs.Words.{parts_of, taken_path, word_path}
-use Rattle.mem_ctl.specs.Calls.{slot_root}
+use Rattle.mem_tree.specs.Words.{parts_of, taken_path}
 use Rattle.mem_ctl.specs.Data.{CtlData, Value, ctl_data, going}
-use Rattle.mem_ctl.specs.Mounting.{mounted_for, taken, used}
+use Rattle.mem_ctl.specs.Mounting.{mounted_for}
 use Rattle.mem_ctl.specs.Results.{IsCall, checked_of}
 use Rattle.mem_ctl.specs.TreesHold.{IsKept}
 use Rattle.mem_ctl.proofs.AccessLemmas.{count_use-keeps}

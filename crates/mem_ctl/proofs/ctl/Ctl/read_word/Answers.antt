@@ -1,4 +1,4 @@
-use Rattle.std.proofs.Common.{◌≡◌, ℕ, ◌/◌, ◌%◌, List, rules, arith, ap, ◌∙◌, sym, subst, ⊎_elim}
+use Rattle.std.proofs.Common.{◌≡◌, ℕ, ◌/◌, ◌%◌, List, ap, ◌∙◌, sym, subst, ⊎_elim}
 use Rattle.std.specs.Prelude.{Err}
 use Rattle.std.specs.Fn.{FnReturnsAt}
 use Rattle.byteorder.specs.Endian.{little_number}
@@ -8,9 +8,9 @@ use Rattle.mem_slots.specs.declared.slot_use.SlotUse.{SlotUse}
 use Rattle.mem_tree.specs.declared.new_path.NewPath.{NewPath}
 use Rattle.mem_ctl.specs.Calls.{accessed, read_word_of, zone_check}
 use Rattle.mem_ctl.specs.Data.{CtlData, Value}
-use Rattle.mem_ctl.specs.Mounting.{mounted_for, used}
-use Rattle.mem_ctl.specs.Opened.{IsOpened, IsRefused, IsRefusedThen}
-use Rattle.mem_ctl.specs.Results.{IsCall, checked_of, outcome_of}
+use Rattle.mem_ctl.specs.Mounting.{mounted_for}
+use Rattle.mem_ctl.specs.Opened.{IsRefusedThen}
+use Rattle.mem_ctl.specs.Results.{IsCall, outcome_of}
 use Rattle.mem_ctl.specs.TreesHold.{IsKept}
 use Rattle.mem_ctl.specs.Writes.{word_at}
 use Rattle.mem_ctl.proofs.AccessCalls.{access_gives, access_refused, access_stops}
@@ -65,7 +65,7 @@ returns-in-Err-clause-call g c =
     let same = λ (x : CtlData). x in
     ⊎_elim
     (λ (m : IsCall gives (mounted_for d (page / 64)) old (outcome_of {A = Unit {0}} (Err b)) new). access_stops gives d page places value same old b new m)
-    (λ (h : IsRefusedThen gives d page (offset / 64) old b new).
+    (λ (h : IsRefusedThen gives d page places old b new).
     subst (IsCall gives (accessed d page places value same) old (outcome_of (Err b))) (sym h.now)
     (access_refused gives d page places value same old b h.between h.mounts (h.is ∙ ap (λ (w : CtlData). zone_check d w (page / 64) places) h.now)))
     c.in-Err.ensures.err

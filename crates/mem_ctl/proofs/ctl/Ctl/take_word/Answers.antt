@@ -1,4 +1,4 @@
-use Rattle.std.proofs.Common.{◌≡◌, ℕ, ◌/◌, ◌%◌, ◌*◌, ◌+◌, Option, true, List, [], get_or, rules, ap, ◌∙◌}
+use Rattle.std.proofs.Common.{◌≡◌, ℕ, ◌/◌, ◌%◌, ◌*◌, ◌+◌, Option, true, List, [], get_or, ap, ◌∙◌}
 use Rattle.std.specs.Option.{unwrap_or}
 use Rattle.pl_base.specs.declared.place.Place.{Place}
 use Rattle.pl_base.specs.declared.place.Place.TheVariants.{Block, Node}

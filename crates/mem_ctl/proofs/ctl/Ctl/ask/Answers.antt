@@ -1,0 +1,12 @@
+use Rattle.std.specs.Fn.{FnReturnsAt}
+use Rattle.mem_ctl.proofs.AskLemmas.{ask_gives, ask_stops}
+use Rattle.mem_ctl.proofs.ctl.Ctl.ask.Goals as goal
+
+pub returns-in-Err-clause-call : goal.returns-in-Err-clause-call
+returns-in-Err-clause-call g c =
+    ask_stops (FnReturnsAt g.F.Fn c.args.self.now.1) g.D.Digester.digest_of c.args.page c.args.offset c.args.self.now.0 g.row.D.Denot c.in-Err.broken c.mount.new.self.0 c.in-Err.ensures.call
+
+pub returns-clause-call : goal.returns-clause-call
+returns-clause-call g c =
+    ask_gives (FnReturnsAt g.F.Fn c.args.self.now.1) g.D.Digester.digest_of c.args.page c.args.offset c.args.self.now.0 c.mount.new.self.0 c.take_word.result c.in_default.ensures.call
+    c.take_word.ensures.page c.take_word.ensures.block c.take_word.ensures.parts
