@@ -9,7 +9,7 @@ use Rattle.pl_digest.specs.Nodes.{entry}
 use Rattle.pl_digest.specs.Trees.{blocks, block_digests, lower_nodes, page_root, page_roots, table_root, upper_node, zone_root}
 use Rattle.pl_digest.proofs.PieceLemmas.{AllOfLength, get_or-pieces, length-pieces}
 use Rattle.mem_geom.specs.PathPlaces.{block_places, level1_places}
-use Rattle.mem_tree.specs.Trees.{AreEntries, IsZone, PathsHold, nth, table_bytes, zone_bytes}
+use Rattle.mem_tree.specs.Trees.{AreEntries, IsZone, PathsAreOfTree, PathsHold, tree_bytes, nth, table_bytes, zone_bytes}
 use Rattle.mem_tree.proofs.DigestSteps.{digests_of_length}
 use Rattle.mem_tree.proofs.LinkedPaths.{IsLinked, block_row, length-block_places, length-level1_places, level1_row, linked_path-holds, paths_are_top_down}
 use Rattle.mem_tree.proofs.TreeNodes.{entry-lower_nodes, entry-upper_node}
@@ -113,4 +113,47 @@ module _ (d : List ℕ → List ℕ) (law : (m : List ℕ) → length (d m) ≡ 
     roots = λ entries zone are below.
         linked_path-holds d (table_root d entries) (RootNode 2 0) (RootNode 1 (zone / 8) ∷ []) (table_bytes d entries) (paths_are_top_down.roots zone below) (table_top_is_root entries are)
         (All-cons (IsLinked d (table_bytes d entries)) (RootNode 1 (zone / 8)) [] (root_node-linked entries are (zone / 8) (omega arith)) (All-nil (IsLinked d (table_bytes d entries))));
+  }
+
+-- ---- the tree's bytes at the places of a path
+
+module _ (d : List ℕ → List ℕ) (pages_of : ℕ → List (List ℕ)) (entries : List (List ℕ)) where
+  of_zone : ℕ → Place → Type 0
+  of_zone zone place = tree_bytes d pages_of entries place ≡ zone_bytes d (pages_of zone) place
+
+  level1-of_zone : (page : ℕ) → All (of_zone (page / 64)) (level1_places page)
+  unfolding of_zone
+  level1-of_zone page k e h =
+      let small : k < 8 = omega (arith, length-level1_places page) in
+      subst (λ place. tree_bytes d pages_of entries place ≡ zone_bytes d (pages_of (page / 64)) place) (sym (level1_row page k e small)) refl
+
+  blocks-of_zone : (page : ℕ) → All (of_zone (page / 64)) (block_places page)
+  unfolding of_zone
+  blocks-of_zone page k e h =
+      let small : k < 64 = omega (arith, length-block_places page) in
+      subst (λ place. tree_bytes d pages_of entries place ≡ zone_bytes d (pages_of (page / 64)) place) (sym (block_row page k e small)) refl
+
+  pub paths_are_of_tree : PathsAreOfTree d pages_of entries
+  unfolding of_zone
+  paths_are_of_tree = record {
+    words = λ page block.
+        let P : Place → Type 0 = of_zone (page / 64) in
+        let block_last : List Place = Block page block ∷ [] in
+        let under2 : List Place = Node 1 (page / 64) (8 * (page % 64) + block / 8) ∷ block_last in
+        let under3 : List Place = Node 2 (page / 64) (page % 64) ∷ under2 in
+        All-cons P (Node 4 (page / 64) 0) (Node 3 (page / 64) (page % 64 / 8) ∷ under3) refl (All-cons P (Node 3 (page / 64) (page % 64 / 8)) under3 refl (
+        All-cons P (Node 2 (page / 64) (page % 64)) under2 refl (All-cons P (Node 1 (page / 64) (8 * (page % 64) + block / 8)) block_last refl (
+        All-cons P (Block page block) [] refl (All-nil P)))));
+    pages = λ page.
+        let P : Place → Type 0 = of_zone (page / 64) in
+        let below : List Place = level1_places page ++ block_places page in
+        All-cons P (Node 4 (page / 64) 0) (Node 3 (page / 64) (page % 64 / 8) ∷ Node 2 (page / 64) (page % 64) ∷ below) refl (
+        All-cons P (Node 3 (page / 64) (page % 64 / 8)) (Node 2 (page / 64) (page % 64) ∷ below) refl (
+        All-cons P (Node 2 (page / 64) (page % 64)) below refl (All-append P (level1_places page) (block_places page) (level1-of_zone page) (blocks-of_zone page))));
+    replaced = λ page.
+        let P : Place → Type 0 = of_zone (page / 64) in
+        All-cons P (Node 4 (page / 64) 0) (Node 3 (page / 64) (page % 64 / 8) ∷ []) refl (All-cons P (Node 3 (page / 64) (page % 64 / 8)) [] refl (All-nil P));
+    roots = λ zone.
+        let P : Place → Type 0 = λ place. tree_bytes d pages_of entries place ≡ table_bytes d entries place in
+        All-cons P (RootNode 2 0) (RootNode 1 (zone / 8) ∷ []) refl (All-cons P (RootNode 1 (zone / 8)) [] refl (All-nil P));
   }

@@ -7,6 +7,10 @@ use Rattle.mem_geom.specs.PathPlaces.{page_places, replaced_places, root_places,
 use Rattle.mem_tree.specs.Checks.{IsTopDown}
 use Rattle.mem_tree.specs.Paths.{first_break, path_of}
 
+-- a digest has 32 bytes
+abbrev pub HasDigests : (List ℕ → List ℕ) → Type 0
+HasDigests digest_of = (message : List ℕ) → length (digest_of message) ≡ 32
+
 -- 64 pages of 4,096 bytes
 pub record IsZone (pages : List (List ℕ)) : Type 0 where
   pub count : length pages ≡ 64
@@ -65,3 +69,10 @@ pub record PathsHold (digest_of : List ℕ → List ℕ) : Type 0 where
       → first_break digest_of (path_of (zone_root digest_of pages) (replaced_places page) (zone_bytes digest_of pages)) ≡ None
   pub roots : (entries : List (List ℕ)) (zone : ℕ) → AreEntries entries → zone < 64
       → first_break digest_of (path_of (table_root digest_of entries) (root_places zone) (table_bytes digest_of entries)) ≡ None
+
+-- the tree's bytes at the places of a path are those of its zone, or of the root table; so a path that holds in its zone holds in the tree
+pub record PathsAreOfTree (digest_of : List ℕ → List ℕ) (pages_of : ℕ → List (List ℕ)) (entries : List (List ℕ)) : Type 0 where
+  pub words : (page block : ℕ) → All (λ place. tree_bytes digest_of pages_of entries place ≡ zone_bytes digest_of (pages_of (page / 64)) place) (word_places page block)
+  pub pages : (page : ℕ) → All (λ place. tree_bytes digest_of pages_of entries place ≡ zone_bytes digest_of (pages_of (page / 64)) place) (page_places page)
+  pub replaced : (page : ℕ) → All (λ place. tree_bytes digest_of pages_of entries place ≡ zone_bytes digest_of (pages_of (page / 64)) place) (replaced_places page)
+  pub roots : (zone : ℕ) → All (λ place. tree_bytes digest_of pages_of entries place ≡ table_bytes digest_of entries place) (root_places zone)

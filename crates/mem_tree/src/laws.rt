@@ -2,10 +2,8 @@
 ghost use Rattle.std.specs.Prelude.{List, ℕ};
 ghost use Rattle.mem_tree.specs.Changes.{TreesChange};
 ghost use Rattle.mem_tree.specs.Checks.{ChecksTell, DifferencesCollide, OwnBytesMatter};
-ghost use Rattle.mem_tree.specs.Trees.{PathsAreTopDown, PathsHold};
+ghost use Rattle.mem_tree.specs.Trees.{HasDigests, PathsAreOfTree, PathsAreTopDown, PathsHold};
 ghost use Rattle.mem_tree.specs.Words.{PartsAnswerAlike};
-
-use pl_digest::Digester;
 
 /// For every digest function, where the written bytes hold under a path's root: its check finds the first place that
 /// breaks or was written otherwise, and what it finds tells how taken and written bytes stand to one another.
@@ -22,13 +20,15 @@ pub fn own_bytes_matter()
 {}
 
 /// The paths of a word, of a page, of a page that is replaced, and of a mounting or an eviction go from the top down,
-/// and each holds in its tree.
-pub fn paths_hold<D: Digester>()
+/// and each holds in its tree, for every digest function with digests of 32 bytes.
+pub fn paths_hold()
     ensures top_down { PathsAreTopDown }
-    ensures hold { PathsHold D.digest_of }
+    ensures hold { (digest_of : List ℕ → List ℕ) → HasDigests digest_of → PathsHold digest_of }
+    ensures of_tree { (digest_of : List ℕ → List ℕ) (pages_of : ℕ → List (List ℕ)) (entries : List (List ℕ)) → PathsAreOfTree digest_of pages_of entries }
 {}
 
-/// What of a tree changes with a part of a block, with a page, and with an entry of the root table.
-pub fn trees_change<D: Digester>()
-    ensures { TreesChange D.digest_of }
+/// What of a tree changes with a part of a block, with a page, and with an entry of the root table, for every digest
+/// function with digests of 32 bytes.
+pub fn trees_change()
+    ensures { (digest_of : List ℕ → List ℕ) → HasDigests digest_of → TreesChange digest_of }
 {}
