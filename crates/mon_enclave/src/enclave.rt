@@ -7,12 +7,11 @@ ghost use Rattle.rv_alone.specs.Flat.{start_registers};
 
 use crate::Bounded;
 use mon_image::Image;
-use pl_base::{EncNo, HartNo, IMAGE_START, No, PAGE_BYTES, State, Why};
+use pl_base::{
+    EncNo, HartNo, IMAGE_START, MOST_IMAGE_PAGES, MOST_SPARES, No, PAGE_BYTES, State, Why,
+};
 use rv_alone::{Context, MOST_WORDS};
 use std::alloc::{AllocError, Global};
-
-// How many pages and how many spares an enclave has at most.
-const MOST_PAGES: usize = 256;
 
 /// A page of an enclave, by its number: its own, or one of the number that it was forked from.
 #[derive(Clone, Copy, PartialEq, Eq, Debug)]
@@ -40,9 +39,9 @@ pub struct Enclave {
     /// The number of its image.
     pub image: u8,
     /// Its pages, in the image's order.
-    pub pages: Bounded<PageKind, MOST_PAGES>,
+    pub pages: Bounded<PageKind, MOST_IMAGE_PAGES>,
     /// The pages that it was given for its copies and that aren't used yet.
-    pub spares: Bounded<u32, MOST_PAGES>,
+    pub spares: Bounded<u32, MOST_SPARES>,
     /// How many spares it was ever given.
     pub given: u32,
     /// Its registers, and the address of its next instruction.
@@ -77,7 +76,7 @@ fn start_registers(pages: usize) -> [u64; 32]
 }
 
 // Fills the list with these pages.
-fn own(list: &mut Bounded<PageKind, MOST_PAGES>, pages: &[u32])
+fn own(list: &mut Bounded<PageKind, MOST_IMAGE_PAGES>, pages: &[u32])
     requires { length pages.now ≤ 256 }
     ensures { list.new ≡ map PageKind.Own pages.now }
 {

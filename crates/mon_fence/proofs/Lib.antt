@@ -1,2 +1,2 @@
-mod HartSets
-mod Needs
+pub mod HartSets
+pub mod Needs

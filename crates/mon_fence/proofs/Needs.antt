@@ -1,5 +1,5 @@
 -- A fence needs only harts that there are, and never its own: what each call keeps.
-use Rattle.std.proofs.Common.{◌≡◌, ◌≢◌, ℕ, ◌≤◌, ◌<◌, eqb, true, List, length, set, drop, position, replicate, slice_set, unwrap_or, Option, Some, None, length-set, ap, sym, ◌∙◌, subst, arith, inl, inr}
+use Rattle.std.proofs.Common.{◌≡◌, ◌≢◌, ℕ, ◌≤◌, ◌<◌, eqb, true, List, length, set, drop, position, replicate, slice_set, unwrap_or, Option, Some, None, length-set, ap, sym, ◌∙◌, subst, arith, inl, inr, ltb, not, ◌&&◌, option_map, refl}
 use Rattle.std.proofs.lemmas.Bool.{cases_Bool, cases_lt, eqb-true, eqb-false, false≢true}
 use Rattle.std.proofs.lemmas.List.{get_or-set_same, get_or-set_other, get_or-replicate, length-replicate}
 use Rattle.std.proofs.Math.Seq.{take-append_seam}
@@ -11,8 +11,8 @@ use Rattle.pl_base.specs.declared.address.Vpn.{Vpn}
 use Rattle.pl_base.specs.declared.number.Space.{Space}
 use Rattle.pl_base.specs.HartSet.{without_hart}
 use Rattle.mon_fence.specs.declared.fences.Fence.{Fence}
-use Rattle.mon_fence.specs.Fences.{fence_of, needs, AreFences, posted}
-use Rattle.mon_fence.proofs.HartSets.{others_than, has_hart-without}
+use Rattle.mon_fence.specs.Fences.{fence_of, needs, AreFences, posted, acked, without_need}
+use Rattle.mon_fence.proofs.HartSets.{others_than, has_hart-without, others_exactly}
 
 pub fence_of-set_same : (fences : List (Option Fence)) (r : ℕ) (now : Option Fence) → r < length fences → fence_of (slice_set fences r now) r ≡ now
 fence_of-set_same fences r now below = unwrap_or-slice_get (set fences r now) r None ∙ get_or-set_same fences r now None below
@@ -76,3 +76,16 @@ posted_there P fences h has = elim (cases_lt h (length fences)) [
   | inl below ↦ below
   | inr past ↦ absurd (subst (λ o. IsSomeAnd (unwrap_or o None) P) (slice_get_past fences h past) has)
 ]
+
+-- ---- the laws
+
+pub acked_all : (fences : List (Option Fence)) (h r : ℕ) → r < length fences → AreFences fences → AreFences (acked fences h r)
+acked_all fences h r below are = by_case (fence_of fences r) refl
+  where
+    by_case : (o : Option Fence) → fence_of fences r ≡ o → AreFences (slice_set fences r (option_map (without_need h) (fence_of fences r)))
+    by_case None is = rw is (left_fits fences r below are)
+    by_case (Some fence) is = rw is (acked_fits fences h r fence below are (sym is))
+
+pub posted_all : (fences : List (Option Fence)) (h : ℕ) (space : Space) (vpn : Option Vpn) (k : ℕ) → AreFences fences → h < length fences
+    → needs (fence_of (posted fences h space vpn) h) k ≡ (ltb k (length fences) && not (eqb k h))
+posted_all fences h space vpn k are below = ap (λ o. needs o k) (fence_of-set_same fences h _ below) ∙ others_exactly (length fences) h k are.few below

@@ -1,5 +1,5 @@
 -- The fences of all harts as a list: that of hart h stands at place h, and is none where it waits for nobody.
-use Rattle.std.specs.Prelude.{ℕ, ◌≡◌, ◌≢◌, ◌<◌, ◌≤◌, ◌==◌, ◌&&◌, Bool, true, false, if◌then◌else◌, List, length, slice_get, slice_set, unwrap_or, Option, Some, None, option_map}
+use Rattle.std.specs.Prelude.{ℕ, ◌≡◌, ◌≢◌, ◌<◌, ◌≤◌, ◌==◌, ◌&&◌, nat_lt, not, replicate, Bool, true, false, if◌then◌else◌, List, length, slice_get, slice_set, unwrap_or, Option, Some, None, option_map}
 use Rattle.std.specs.Option.{option_map_or}
 use Rattle.pl_base.specs.declared.address.Vpn.{Vpn}
 use Rattle.pl_base.specs.declared.number.HartSet.{HartSet}
@@ -46,3 +46,12 @@ lacking (Some fence) = if fence.need.0 == 0 then None else Some fence.need
 abbrev pub covers : Space → Vpn → Option Fence → Bool
 covers space vpn None = false
 covers space vpn (Some fence) = fence.space.0 == space.0 && option_map_or (λ page. page.0 == vpn.0) fence.vpn true
+
+-- what holds of the calls over plain lists: a posted fence needs exactly the other harts, and each call keeps that a fence needs only others
+pub record FencesNeedOthers : Type 0 where
+  pub all_others : (fences : List (Option Fence)) (h : ℕ) (space : Space) (vpn : Option Vpn) (k : ℕ) → AreFences fences → h < length fences
+      → needs (fence_of (posted fences h space vpn) h) k ≡ (nat_lt k (length fences) && not (k == h))
+  pub posting : (fences : List (Option Fence)) (h : ℕ) (space : Space) (vpn : Option Vpn) → h < length fences → AreFences fences → AreFences (posted fences h space vpn)
+  pub acknowledging : (fences : List (Option Fence)) (h requester : ℕ) → requester < length fences → AreFences fences → AreFences (acked fences h requester)
+  pub leaving : (fences : List (Option Fence)) (h : ℕ) → h < length fences → AreFences fences → AreFences (slice_set fences h None)
+  pub none : (harts : ℕ) → harts ≤ 8 → AreFences (replicate harts None)

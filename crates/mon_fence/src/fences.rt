@@ -70,6 +70,7 @@ impl Fences {
         requires { h.0 < length self.now }
         ensures lowest { result ≡ option_map (λ requester. record { 0 = requester }) (position (λ fence. needs fence h.0) self.now) }
         ensures needed { IfSome result (λ requester. IsTrue (needs (fence_of self.now requester.0) h.0)) }
+        ensures kept { AreFences self.now }
     {
         let _ = &self.fences;
         match self.first_needing(h) {

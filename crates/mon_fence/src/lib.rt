@@ -5,8 +5,10 @@
 #![tactic(auto)]
 
 mod fences;
+mod laws;
 
 pub use fences::{Fence, Fences};
+pub use laws::fences_need_others;
 
 #[cfg(test)]
 mod tests;

@@ -2,11 +2,21 @@
 use Rattle.std.proofs.Common.{◌≡◌, ◌≢◌, ℕ, zero, suc, ◌+◌, ◌<◌, ◌≤◌, eqb, true, false, cond, List, [], ◌∷◌, ◌++◌, length, get_or, Option, Some, None, All, refl, ap, sym, ◌∙◌, subst, arith, inl, inr}
 use Rattle.std.proofs.lemmas.Bool.{cases_Bool, cond-true, cond-false, eqb-true}
 use Rattle.std.proofs.lemmas.Bool.Decides.{nat_tests}
+use Rattle.std.proofs.lemmas.List.Elements.{All-nil, All-cons}
+use Rattle.std.proofs.lemmas.List.Kept.{AllPairs-cons, AllPairs-filter}
+use Rattle.std.proofs.lemmas.List.Quantifiers.{all_pairs_push}
 use Rattle.std.proofs.lemmas.List.Folds.{find-append}
 use Rattle.std.specs.Option.{option_or}
 use Rattle.mon_tables.specs.declared.number_tables.Leaf.{Leaf}
-use Rattle.mon_tables.specs.Space.{Mapping, mapping_at, without_vpn}
-use Rattle.mon_tables.specs.SpaceWalks.{leaf_mappings}
+use Rattle.mon_tables.specs.Space.{Differ, IsSpace, Mapping, mapping_at, without_vpn}
+use Rattle.mon_tables.specs.SpaceWalks.{leaf_mappings, SpacesStay}
+
+-- options
+pub same_Some : {X : Type 0} (x y : X) → Some x ≡ Some y → x ≡ y
+same_Some x y is = cc
+
+pub none_some : {X : Type 0} (x : X) → None ≡ Some x → ⊥
+none_some x is = cc
 
 -- what holds of each mapping holds of the one that is found
 pub found : (P : Mapping → Type 0) (space : List Mapping) (vpn : ℕ) (m : Mapping) → All P space → mapping_at space vpn ≡ Some m → P m
@@ -73,3 +83,29 @@ leaf_mappings-at (leaf ∷ leaves) from (suc i) d below =
     let step : from + 1 + i ≡ from + suc i = omega arith in
     rw no (subst (λ n. mapping_at (leaf_mappings (from + 1) leaves) n ≡ Some (record { vpn = n; page = (get_or leaves i d).page; perms = (get_or leaves i d).perms })) step
     (leaf_mappings-at leaves (from + 1) i d (omega arith)))
+
+-- ---- no page is mapped twice
+
+none_differ : (space : List Mapping) (m : Mapping) → mapping_at space m.vpn ≡ None → All (λ x. Differ x m) space
+none_differ [] m none = All-nil (λ x. Differ x m)
+none_differ (x ∷ xs) m none = elim (cases_Bool (eqb x.vpn m.vpn)) [
+  | inl same ↦ absurd (none_some x (sym none ∙ cond-true _ _ _ same))
+  | inr other ↦ All-cons (λ y. Differ y m) x xs (let no : eqb m.vpn x.vpn ≡ false = grind (arith, nat_tests) in no) (none_differ xs m (sym (cond-false _ _ _ other) ∙ none))
+]
+
+all_later : (leaves : List Leaf) (first : Mapping) (from : ℕ) → first.vpn < from → All (Differ first) (leaf_mappings from leaves)
+all_later [] first from before = All-nil (Differ first)
+all_later (leaf ∷ leaves) first from before =
+    All-cons (Differ first) _ (leaf_mappings (from + 1) leaves) (let no : eqb from first.vpn ≡ false = grind (arith, nat_tests) in no) (all_later leaves first (from + 1) (omega arith))
+
+leaves_are_space : (leaves : List Leaf) (vpn : ℕ) → IsSpace (leaf_mappings vpn leaves)
+leaves_are_space [] vpn = λ i j d less below. absurd (omega arith)
+leaves_are_space (leaf ∷ leaves) vpn =
+    AllPairs-cons Differ _ (leaf_mappings (vpn + 1) leaves) (all_later leaves (leaf_mapping vpn leaf) (vpn + 1) (omega arith)) (leaves_are_space leaves (vpn + 1))
+
+pub spaces_stay : SpacesStay
+spaces_stay = record {
+  set = λ space m is none. all_pairs_push Differ space m is (none_differ space m none);
+  cleared = λ space vpn is. AllPairs-filter Differ _ space is;
+  leaves = leaves_are_space;
+}

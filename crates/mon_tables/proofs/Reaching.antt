@@ -10,18 +10,18 @@ use Rattle.pl_base.specs.declared.perms.Perms.{Perms}
 use Rattle.rv_sv39.specs.Walk.{Answer, WalksFrom, ends, leads, breaks, entry, leads_on, translates}
 use Rattle.rv_sv39.specs.Word.{ppn_of, perms_of}
 use Rattle.mon_tables.specs.Space.{Mapping, mapping_at}
-use Rattle.mon_tables.specs.SpaceWalks.{IsMappable, permitted, same_mode, translation, word_of}
+use Rattle.mon_tables.specs.SpaceWalks.{IsMappable, let_through, same_mode, translation, word_of}
 use Rattle.mon_tables.specs.Words.{leaf_word, pointer_word, ppn_of_page}
 use Rattle.mon_tables.proofs.Mappings.{found}
 use Rattle.mon_tables.proofs.WordBits.{leaf_translates, perms_of-leaf, pointer_leads, ppn_of-leaf, ppn_of-pointer}
 
 -- what an access gets, by the mapping that is found
 by_mapping : Mode → Mode → Kind → Option Mapping → Answer
-by_mapping owner mode kind o = cond (same_mode owner mode) (option_and_then (permitted kind) o) None
+by_mapping owner mode kind o = cond (same_mode owner mode) (option_and_then (let_through kind) o) None
 
 nothing : (owner mode : Mode) (kind : Kind) → by_mapping owner mode kind None ≡ None
 unfolding by_mapping
-nothing owner mode kind = elim (same_mode owner mode) as (λ s. cond s (option_and_then (permitted kind) None) None ≡ None) [ true ↦ refl | false ↦ refl ]
+nothing owner mode kind = elim (same_mode owner mode) as (λ s. cond s (option_and_then (let_through kind) None) None ≡ None) [ true ↦ refl | false ↦ refl ]
 
 no_leaf : (level : ℕ) (kind : Kind) (mode : Mode) → translates level 0 kind mode ≡ false
 no_leaf level kind mode = refl
@@ -43,8 +43,8 @@ module _ (words : ℕ → ℕ) (vpn : Vpn) (mode : Mode) (kind : Kind) where
 
     module _ (m : Mapping) (fits : IsMappable m) (table : ℕ) (is : entry words vpn 0 table ≡ leaf_word m.page m.perms owner) where
       -- what the word lets through
-      let_through : (answer : Bool) → (same_mode owner mode && grants m.perms kind) ≡ answer → translates 0 (entry words vpn 0 table) kind mode ≡ answer
-      let_through answer asked = ap (λ word. translates 0 word kind mode) is ∙ (leaf_translates m.page m.perms owner fits.page fits.perms mode kind ∙ asked)
+      lets_through : (answer : Bool) → (same_mode owner mode && grants m.perms kind) ≡ answer → translates 0 (entry words vpn 0 table) kind mode ≡ answer
+      lets_through answer asked = ap (λ word. translates 0 word kind mode) is ∙ (leaf_translates m.page m.perms owner fits.page fits.perms mode kind ∙ asked)
 
       ends_there : (same_mode owner mode && grants m.perms kind) ≡ true → WalksFrom words vpn mode kind 0 table (Some (record { 0 = ppn_of_page m.page }, m.perms))
       ends_there asked =
@@ -53,10 +53,10 @@ module _ (words : ℕ → ℕ) (vpn : Vpn) (mode : Mode) (kind : Kind) where
           let perms : perms_of (entry words vpn 0 table) ≡ m.perms = ap perms_of is ∙ perms_of-leaf m.page m.perms owner fits.page fits.perms in
           subst (λ (p : Perms). WalksFrom words vpn mode kind 0 table (Some (record { 0 = ppn_of_page m.page }, p))) perms (
           subst (λ (n : ℕ). WalksFrom words vpn mode kind 0 table (Some (record { 0 = n }, perms_of (entry words vpn 0 table)))) page (
-          ends 0 table (let_through true asked)))
+          ends 0 table (lets_through true asked)))
 
       breaks_there : (same_mode owner mode && grants m.perms kind) ≡ false → WalksFrom words vpn mode kind 0 table None
-      breaks_there asked = breaks 0 table (and_right _ _ refl) (let_through false asked)
+      breaks_there asked = breaks 0 table (and_right _ _ refl) (lets_through false asked)
 
       answers : (s g : Bool) → same_mode owner mode ≡ s → grants m.perms kind ≡ g
           → WalksFrom words vpn mode kind 0 table (cond s (cond g (Some (record { 0 = ppn_of_page m.page }, m.perms)) None) None)

@@ -1,5 +1,5 @@
 -- The start words, one after another.
-use Rattle.std.proofs.Common.{◌≡◌, ◌≢◌, ℕ, zero, suc, ◌+◌, ◌*◌, ◌/◌, ◌%◌, ◌≤◌, ◌==◌, ◌&&◌, Bool, eqb, ltb, true, false, cond, [], ◌∷◌, ◌++◌, length, map, find, Option, Some, None, ap, sym, ◌∙◌, refl, arith, zero-add, inl, inr}
+use Rattle.std.proofs.Common.{◌≡◌, subst, ◌<◌, ◌≢◌, ℕ, zero, suc, ◌+◌, ◌*◌, ◌/◌, ◌%◌, ◌≤◌, ◌==◌, ◌&&◌, Bool, eqb, ltb, true, false, cond, [], ◌∷◌, ◌++◌, length, map, find, Option, Some, None, ap, sym, ◌∙◌, refl, arith, zero-add, inl, inr}
 use Rattle.std.specs.List.{range_with_len}
 use Rattle.std.specs.Option.{option_map_or, option_or}
 use Rattle.std.proofs.lemmas.Bool.{cases_Bool, cases_lt, cond-false, eqb-true, eqb-false, lt-ltb}
@@ -7,7 +7,8 @@ use Rattle.std.proofs.lemmas.Bool.Decides.{nat_tests}
 use Rattle.std.proofs.lemmas.List.Folds.{find-append}
 use Rattle.std.proofs.lemmas.List.FromFn.{map-range_with_len_more, length-map-range_with_len}
 use Rattle.mon_tables.specs.SpaceWalks.{StartsEmpty, listed_word}
-use Rattle.mon_tables.specs.Tables.{start_words}
+use Rattle.mon_tables.specs.Tables.{slot_address, start_words}
+use Rattle.mon_tables.proofs.HostWalks.{has_slot}
 use Rattle.mon_tables.specs.Words.{pointer_word}
 
 pub length-start_words : (n : ℕ) → length (start_words n) ≡ n + 1
@@ -76,8 +77,11 @@ unfolding is_at at_start value_of
 starts_empty tables words few start = record {
   root = λ k small. start 0 k (omega arith) small ∙ first k;
   middle = λ k small. start 1 k (omega arith) small ∙ (ap value_of (find_middle tables k) ∙ second k);
-  leaves = λ vpn below. start (2 + vpn / 512) (vpn % 512) (omega arith) (omega arith) ∙ third (2 + vpn / 512) (8 * (vpn % 512)) (omega arith);
-  past = λ vpn far. refl;
+  leaves = λ vpn slot is.
+      let below : vpn < 512 * tables = (has_slot tables vpn slot is).0 in
+      subst (λ (s : ℕ × ℕ). words (slot_address s) ≡ 0) (has_slot tables vpn slot is).1
+      (start (2 + vpn / 512) (vpn % 512) (omega arith) (omega arith) ∙ third (2 + vpn / 512) (8 * (vpn % 512)) (omega arith));
+  past = λ vpn none. refl;
 }
   where
     first : (k : ℕ) → listed_word (start_words tables) 0 (8 * k) ≡ cond (eqb k 0) (pointer_word 1) 0

@@ -1,6 +1,7 @@
 -- Address spaces as lists of mappings (own).
-use Rattle.std.specs.Prelude.{ℕ, ◌==◌, not, List, filter, find, count_by, Option}
+use Rattle.std.specs.Prelude.{ℕ, ◌/◌, ◌==◌, not, IsFalse, AllPairs, List, filter, find, count_by, Option}
 use Rattle.std.specs.Int.RustNames.{bit_and}
+use Rattle.pl_base.specs.declared.page.TheConstants.{IMAGE_START}
 use Rattle.pl_base.specs.declared.perms.Perms.{Perms}
 
 -- a mapping: the page that a virtual page number leads to, and what may be done with it
@@ -8,6 +9,18 @@ pub record Mapping : Type 0 where
   pub vpn : ℕ
   pub page : ℕ
   pub perms : Perms
+
+-- the virtual page number of an image's first page
+abbrev pub first_vpn : ℕ
+first_vpn = IMAGE_START / 4096
+
+-- two mappings are of two pages
+abbrev pub Differ : Mapping → Mapping → Type 0
+Differ a b = IsFalse (b.vpn == a.vpn)
+
+-- no page is mapped twice
+abbrev pub IsSpace : List Mapping → Type 0
+IsSpace = AllPairs Differ
 
 -- the mapping of a virtual page number, where a space has one
 abbrev pub mapping_at : List Mapping → ℕ → Option Mapping

@@ -5,6 +5,7 @@ use Rattle.byteorder.specs.Endian.{little_bytes}
 use Rattle.pl_base.specs.declared.access.Mode.TheVariants.{User}
 use Rattle.pl_base.specs.declared.address.Ppn.{Ppn}
 use Rattle.mon_tables.specs.declared.number_tables.Leaf.{Leaf}
+use Rattle.mon_tables.specs.Space.{first_vpn}
 use Rattle.mon_tables.specs.Words.{leaf_word, pointer_word, ppn_of_page}
 
 -- ---- the host's tables: its root in page 0, its middle table in page 1, and so many last-level tables from page 2 on
@@ -28,6 +29,10 @@ table_number tables e level = 2 + tables + 3 * e + (2 - level)
 abbrev pub root_of : ℕ → ℕ → Ppn
 root_of tables space = record { 0 = ppn_of_page (if space == 0 then 0 else table_number tables (space - 1) 2) }
 
+-- the address of a word by the page of its table and its offset there
+abbrev pub slot_address : ℕ × ℕ → ℕ
+slot_address slot = 4096 * ppn_of_page slot.0 + slot.1
+
 abbrev pub leaf_of : Leaf → ℕ
 leaf_of leaf = leaf_word leaf.page leaf.perms User
 
@@ -35,14 +40,14 @@ leaf_of leaf = leaf_word leaf.page leaf.perms User
 unfoldable pub pointing_words : ℕ → List ℕ
 pointing_words page = pointer_word page ∷ replicate 511 0
 
--- the 512 words of a last table: the leaves of the image's pages stand from word 16 on
+-- the 512 words of a last table: the leaves of the image's pages stand from the word of the first one's virtual page number on
 unfoldable pub leaf_words : List Leaf → List ℕ
-leaf_words leaves = replicate 16 0 ++ (map leaf_of leaves ++ replicate (496 - length leaves) 0)
+leaf_words leaves = replicate first_vpn 0 ++ (map leaf_of leaves ++ replicate (496 - length leaves) 0)
 
 -- the words of a number's table of a level: the root points to the middle table, and this one to the last
 abbrev pub table_words : ℕ → ℕ → ℕ → List Leaf → List ℕ
 table_words tables e level leaves = if level == 0 then leaf_words leaves else pointing_words (table_number tables e (level - 1))
 
 -- the bytes of that table
-abbrev pub table_bytes : ℕ → ℕ → ℕ → List Leaf → List ℕ
-table_bytes tables e level leaves = flat_map (little_bytes 8) (table_words tables e level leaves)
+abbrev pub number_table_bytes : ℕ → ℕ → ℕ → List Leaf → List ℕ
+number_table_bytes tables e level leaves = flat_map (little_bytes 8) (table_words tables e level leaves)

@@ -1,14 +1,14 @@
 // The three tables of an enclave number.
 ghost use Rattle.std.specs.Prelude.{◌≡◌, ◌<◌, ◌≤◌, IsTrue, All, length};
 ghost use Rattle.pl_base.specs.Perms.{are_page_perms};
-ghost use Rattle.mon_tables.specs.Tables.{leaf_words, pointing_words, table_bytes, table_number, table_words};
+ghost use Rattle.mon_tables.specs.Tables.{leaf_words, number_table_bytes, pointing_words, table_number, table_words};
 
 use crate::words::{leaf_word, pointer_word};
 use byteorder::{ByteOrder, LittleEndian};
-use pl_base::{EncNo, Mode, Perms};
+use pl_base::{EncNo, IMAGE_START, Mode, PAGE_BYTES, Perms};
 
-/// The word of an image's first page, which stands at virtual page 16.
-const FIRST_LEAF: usize = 16;
+/// The word of an image's first page: its virtual page number.
+const FIRST_LEAF: usize = (IMAGE_START / PAGE_BYTES) as usize;
 
 /// The page of one page of an image, and what may be done with it.
 #[derive(Clone, Copy, PartialEq, Eq, Debug)]
@@ -22,7 +22,7 @@ pub fn table_page(tables: u8, e: EncNo, level: u8, leaves: &[Leaf], into: &mut [
     requires level { level < 3 }
     requires few { length leaves.now ≤ 256 }
     requires perms { All (λ leaf. IsTrue (are_page_perms leaf.perms)) leaves.now }
-    ensures { into.new ≡ table_bytes tables e.0 level leaves.now }
+    ensures { into.new ≡ number_table_bytes tables e.0 level leaves.now }
 {
     let words = table_words(tables, e, level, leaves);
     LittleEndian::write_u64_into(&words, into);

@@ -13,4 +13,6 @@ pub use top::quick;
 pub use world_setup::RuleText;
 
 #[cfg(test)]
+mod setup_tests;
+#[cfg(test)]
 mod tests;

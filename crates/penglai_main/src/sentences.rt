@@ -1,4 +1,6 @@
 // The rules that the top call tries, in words.
+ghost use Rattle.std.specs.Prelude.{◌≡◌, ◌≤◌, IsSome};
+
 use world_setup::RuleText;
 
 // Rule 99, which is tried last.
@@ -8,7 +10,10 @@ const BUILT: RuleText = RuleText {
 };
 
 /// The rule of this number in words, where there is one.
-pub fn rule_text(rule: u8) -> Option<RuleText> {
+pub fn rule_text(rule: u8) -> Option<RuleText>
+    ensures of_setups { 1 ≤ rule → rule ≤ 24 → IsSome result }
+    ensures of_runs { rule ≡ 99 → IsSome result }
+{
     match rule {
         99 => Some(BUILT),
         _ => world_setup::rule_text(rule),

@@ -12,7 +12,7 @@ use Rattle.pl_base.specs.declared.refusal.No.{No}
 use Rattle.pl_base.specs.declared.refusal.No.TheVariants.{Misaligned, PageFault, AccessFault}
 use Rattle.mem_geom.specs.Layout.{page_start}
 use Rattle.rv_pmp.specs.Pmp.{permits}
-use Rattle.rv_sv39.specs.Address.{is_canonical}
+use Rattle.rv_sv39.specs.Canonical.{is_canonical}
 use Rattle.pl_history.specs.declared.answer.Answer.{Answer}
 use Rattle.pl_history.specs.declared.answer.Answer.TheVariants as answer_is
 use Rattle.pl_history.specs.declared.line.Line.TheVariants.{Load, Store}

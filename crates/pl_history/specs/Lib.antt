@@ -24,7 +24,6 @@ pub use Rattle.pl_base.specs.Bytes
 pub use Rattle.pl_base.specs.Pages
 pub use Rattle.pl_base.specs.Refusals
 pub use Rattle.pl_base.specs.States
-pub use Rattle.mon_tables.specs.Space
 pub use Rattle.pl_io.specs.Puts
 pub use Rattle.rv_alone.specs.Alone
 pub use Rattle.rv_alone.specs.Flat

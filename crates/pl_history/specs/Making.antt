@@ -2,11 +2,11 @@
 use Rattle.std.specs.Prelude.{ℕ, ◌+◌, ◌==◌, nat_lt, Bool, true, not, List, [], ◌∷◌, ◌++◌, length, find, Option, Some, option_map, slice_get}
 use Rattle.std.specs.Option.{option_map_or}
 use Rattle.pl_base.specs.declared.refusal.No.{No}
-use Rattle.pl_base.specs.declared.refusal.No.TheVariants.{Exists, Count, Twice, NotYours, StillMapped, Barred, NoEnclave, WrongState, TooMany}
+use Rattle.pl_base.specs.declared.refusal.No.TheVariants.{Exists, Count, Twice, NotYours, StillMapped, Barred, NoEnclave, TooMany}
 use Rattle.pl_base.specs.declared.state.State.TheVariants as state_is
 use Rattle.pl_base.specs.Refusals.{refuse, first_refusal}
 use Rattle.pl_base.specs.Pages.{first_twice, most_spares}
-use Rattle.pl_base.specs.States.{is_free, is_absent, is_sealed, is_under_way}
+use Rattle.pl_base.specs.States.{destroy_refusal, is_free, is_sealed}
 use Rattle.rv_pmp.specs.Pmp.{page_allowed}
 use Rattle.pl_history.specs.declared.answer.Answer.{Answer}
 use Rattle.pl_history.specs.declared.answer.Answer.TheVariants as answer_is
@@ -63,8 +63,7 @@ abbrev pub grant_refusal : SetupParts → Monitor → ℕ → ℕ → Option No
 grant_refusal setup s e page =
     let n = s.number e in
     first_refusal (
-    refuse (is_absent n.state) NoEnclave
-    ∷ refuse (is_under_way n.state) (WrongState n.state)
+    destroy_refusal n.state
     ∷ (page_refusals setup s (page ∷ []) ++ refuse (nat_lt most_spares (length n.spares + 1)) TooMany ∷ []))
 
 -- ---- the answers

@@ -5,16 +5,16 @@ use Rattle.pl_base.specs.declared.perms.Perms.{Perms}
 use Rattle.rv_alone.specs.Flat.{Image, Page}
 use Rattle.pl_history.specs.declared.setup.SetupParts.{SetupParts}
 use Rattle.pl_history.specs.Monitor.{Number, image_at}
-use Rattle.mon_tables.specs.Space.{Mapping, without_write}
+use Rattle.mon_tables.specs.Space.{first_vpn, Mapping, without_write}
 
 -- the first place of a page of the image in a list
 abbrev pub place_in : ℕ → List ℕ → Option ℕ
 place_in at [] = None
 place_in at (first ∷ later) = if first == at then Some 0 else option_map (λ place. place + 1) (place_in at later)
 
--- page i of an image has the virtual page number 16 + i
+-- the pages of an image have virtual page numbers one after another
 abbrev pub image_mapping : ℕ → ℕ → Perms → Mapping
-image_mapping at page perms = record { vpn = 16 + at; page = page; perms = perms }
+image_mapping at page perms = record { vpn = first_vpn + at; page = page; perms = perms }
 
 -- A page of the image that a forked number has broken, the k-th, is its k-th spare; any other is the shadow's, without W.
 abbrev pub forked_mapping : List ℕ → List ℕ → Option ℕ → ℕ → Perms → Mapping

@@ -8,7 +8,7 @@ use Rattle.pl_base.specs.declared.address.Pa.{Pa}
 use Rattle.pl_base.specs.declared.address.Ppn.{Ppn}
 use Rattle.pl_base.specs.declared.address.Va.{Va}
 use Rattle.pl_base.specs.declared.perms.Perms.{Perms}
-use Rattle.rv_sv39.specs.Address.{is_canonical}
+use Rattle.rv_sv39.specs.Canonical.{is_canonical}
 use Rattle.rv_sv39.specs.Step.{step, FitsAccess, StepsFit}
 use Rattle.rv_sv39.specs.Walk.{Answer, table_at, entry_address, entry, steps_from, answer_of, SaysOfWalk, StepsSay, WalksBySteps}
 use Rattle.rv_sv39.specs.declared.walk.Walked.{Walked}

@@ -7,7 +7,7 @@ use Rattle.pl_base.specs.declared.address.Pa.{Pa}
 use Rattle.pl_base.specs.declared.address.Ppn.{Ppn}
 use Rattle.pl_base.specs.declared.address.Va.{Va}
 use Rattle.pl_base.specs.declared.perms.Perms.{Perms}
-use Rattle.rv_sv39.specs.Address.{is_canonical}
+use Rattle.rv_sv39.specs.Canonical.{is_canonical}
 use Rattle.rv_sv39.specs.Walk.{entry_address}
 use Rattle.rv_tlb.specs.Tlb.{is_of}
 use Rattle.rv_tlb.specs.declared.tlb.TlbEntry.{TlbEntry}

@@ -4,7 +4,7 @@ use Rattle.pl_base.specs.Address.{vpn_of}
 use Rattle.pl_base.specs.declared.access.Kind.{Kind}
 use Rattle.pl_base.specs.declared.address.Pa.{Pa}
 use Rattle.pl_base.specs.declared.address.Va.{Va}
-use Rattle.rv_sv39.specs.Address.{is_canonical}
+use Rattle.rv_sv39.specs.Canonical.{is_canonical}
 use Rattle.rv_sv39.specs.Walk.{Answer, Walks, table_at, entry_address}
 use Rattle.rv_tlb.specs.Tlb.{is_of, with_entry}
 use Rattle.rv_tlb.specs.declared.tlb.TlbEntry.{TlbEntry}

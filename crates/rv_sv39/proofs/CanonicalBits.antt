@@ -4,7 +4,7 @@ use Rattle.std.specs.Int.{bit_at}
 use Rattle.std.proofs.lemmas.Bool.{cases_lt, cases_eq}
 use Rattle.std.proofs.lemmas.Nat.{shr-shr, shr_below}
 use Rattle.std.proofs.lemmas.Nat.Bits.{bit_at-zero, bit_at-lt, bit_at_ones, same_from_bits_below}
-use Rattle.rv_sv39.specs.Address.{ExtendsBit38}
+use Rattle.rv_sv39.specs.Canonical.{ExtendsBit38}
 
 -- a bit of the number is one of its top
 bit_of_top : (va i : ℕ) → 38 ≤ i → bit_at va i ≡ bit_at (va / 2 ^ 38) (i - 38)

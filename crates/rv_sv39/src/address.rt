@@ -1,5 +1,5 @@
 ghost use Rattle.std.specs.Prelude.{◌≡◌, ◌↔◌, IsTrue};
-ghost use Rattle.rv_sv39.specs.Address.{is_canonical, ExtendsBit38};
+ghost use Rattle.rv_sv39.specs.Canonical.{is_canonical, ExtendsBit38};
 
 use pl_base::Va;
 

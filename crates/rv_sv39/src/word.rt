@@ -5,18 +5,23 @@ ghost use Rattle.rv_sv39.specs.Word.{has, ppn_of, perms_of, is_valid_entry, is_p
 use pl_base::{Kind, Mode, Perms, Ppn, Vpn};
 
 // The bits of a table word. G (5) and RSW (9:8) are ignored.
+
+/// The entry is valid.
 pub const V: u32 = 0;
 
-pub const R: u32 = 1;
+pub(crate) const R: u32 = 1;
 
-pub const W: u32 = 2;
+pub(crate) const W: u32 = 2;
 
-pub const X: u32 = 3;
+pub(crate) const X: u32 = 3;
 
+/// The page is accessible in the mode `User`, and in no other.
 pub const U: u32 = 4;
 
+/// The page was accessed.
 pub const A: u32 = 6;
 
+/// The page was written.
 pub const D: u32 = 7;
 
 /// The lowest bit of the page number.

@@ -15,8 +15,6 @@ mod reading;
 mod references;
 mod scripts;
 mod sentences;
-#[cfg(test)]
-mod tests;
 mod toml_data;
 mod words;
 

@@ -1,8 +1,8 @@
 // A list of pages: numbers and ranges, with commas between.
-ghost use Rattle.std.specs.Prelude.{◌≡◌, ◌++◌, nat_le, map, sum_by, option_map, Some, None, if◌then◌else◌, IfOk, OnOk};
+ghost use Rattle.std.specs.Prelude.{◌≡◌, ◌++◌, nat_le, sum_by, option_map, Some, None, if◌then◌else◌, IfOk, OnOk};
 ghost use Rattle.std.specs.List.{flat_map};
 ghost use Rattle.world_setup.specs.Words.{parts_of};
-ghost use Rattle.world_setup.specs.PageLists.{range_from, range_of, all_ranges, range_length, range_pages, pages_of_ranges, page_list_of};
+ghost use Rattle.world_setup.specs.PageLists.{range_from, range_of, all_ranges, range_length, range_pages, page_list_of};
 
 use crate::arguments::small_number_of;
 use crate::words::first_part;

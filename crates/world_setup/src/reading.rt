@@ -1,5 +1,4 @@
 // A setup from its text.
-ghost use Rattle.std.specs.Prelude.{◌≡◌, ◌≤◌, length, sum_by};
 ghost use Rattle.toml.specs.View.{table_view};
 ghost use Rattle.world_setup.specs.Answers.{Answers};
 ghost use Rattle.world_setup.specs.SetupOf.{AreFew, lines_known, setup_of_table, setup_of};

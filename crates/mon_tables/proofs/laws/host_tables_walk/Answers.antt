@@ -1,4 +1,5 @@
-use Rattle.mon_tables.proofs.HostWalks.{host_walks, sets, clears}
+use Rattle.mon_tables.proofs.HostWalks.{host_walks, sets, clears, pages_have_numbers}
+use Rattle.mon_tables.proofs.Mappings.{spaces_stay}
 use Rattle.mon_tables.proofs.StartWords.{starts_empty}
 use Rattle.mon_tables.proofs.laws.host_tables_walk.Goals as goal
 
@@ -13,3 +14,9 @@ returns-clause-set c = sets
 
 pub returns-clause-clear : goal.returns-clause-clear
 returns-clause-clear c = clears
+
+pub returns-clause-spaces : goal.returns-clause-spaces
+returns-clause-spaces c = spaces_stay
+
+pub returns-clause-pages : goal.returns-clause-pages
+returns-clause-pages c = pages_have_numbers

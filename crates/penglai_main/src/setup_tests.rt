@@ -1,8 +1,8 @@
 // The parts of a setup that was read. Which texts are refused, and by which rule, stands in `rows/`.
-use crate::read_setup;
 use mon_image::Image;
 use pl_history::SetupParts;
 use std::test::Fail;
+use world_setup::read_setup;
 
 // Each form of a line once.
 const WHOLE: &str = "version = 1
