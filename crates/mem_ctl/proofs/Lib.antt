@@ -4,8 +4,10 @@ pub mod AskLemmas
 pub mod CallLemmas
 pub mod MountLemmas
 pub mod PageLemmas
+pub mod PageParts
 pub mod PagePlaces
 pub mod PageReads
+pub mod PagesWritten
 pub mod PageWrites
 pub mod PageCalls
 pub mod PathLoop

@@ -25,12 +25,14 @@ use Rattle.mem_ctl.specs.Pages.{got_outcome, page_written}
 use Rattle.mem_ctl.specs.Results.{outcome_of}
 use Rattle.mem_ctl.specs.TreesHold.{TreesHold}
 use Rattle.mem_ctl.specs.Writes.{with_places, zone_pages}
+use Rattle.mem_ctl.specs.WrittenPages.{PageBecomes}
+use Rattle.mem_ctl.proofs.PageParts.{page_after}
 use Rattle.mem_ctl.proofs.PageWrites.{length-level1, page_fit, page_root_is, page_update, replaced_pages}
 use Rattle.mem_ctl.proofs.RenewedLemmas.{renewed-alike, renewed_root-alike}
 use Rattle.mem_ctl.proofs.SlotLemmas.{root_found}
 use Rattle.mem_ctl.proofs.WriteLemmas.{length-with_places}
 use Rattle.mem_ctl.proofs.ZoneLemmas.{mirror_is, replaced_path-written}
-use Rattle.mem_ctl.proofs.ZoneUpdates.{updated-hold}
+use Rattle.mem_ctl.proofs.ZoneUpdates.{ZoneUpdate, updated-hold}
 
 -- as many bytes as before
 length-with_page : (d : List ℕ → List ℕ) → ((m : List ℕ) → length (d m) ≡ 32) → (zones page : ℕ) (bytes memory : List ℕ) → page < 64 * zones → length bytes ≡ 4096 → length memory ≡ memory_size zones
@@ -90,6 +92,34 @@ module _ (d : List ℕ → List ℕ) where
         (replaced_path-written d law x.zones x.mirror trees.sizes.mirror_size trees.nodes page there (slot_root x (page / 64)) slot_root_is x.off_chip)) in
         tells
 
+    -- the nodes that stay above the page are the tree's
+    above_is : AllHold ≡ zone_check d x (page / 64) (replaced_places page) → All (λ (q : Place). taken x q ≡ zone_bytes d (zone_pages x.mirror (page / 64)) q) (above_page page)
+    above_is holds =
+        let z : ℕ = page / 64 in
+        let n3 : Place = Node 3 z (page % 64 / 8) in
+        let n4 : Place = Node 4 z 0 in
+        let same = replaced_same holds in
+        let tree = λ (q : Place) (of : IsOfZone z q). mirror_is d law x.zones x.mirror trees.sizes.mirror_size trees.nodes z (omega arith) q of in
+        let P = λ (q : Place). taken x q ≡ zone_bytes d (zone_pages x.mirror z) q in
+        All-cons P n3 (n4 ∷ []) (same 1 n3 (omega arith) ∙ tree n3 (refl, omega arith)) (All-cons P n4 [] (same 0 n4 (omega arith) ∙ tree n4 (refl, omega arith)) (All-nil P))
+
+    -- the page is replaced, and no other changes
+    pub with_page_at-pages : (bytes : List ℕ) → length bytes ≡ 4096 → AllHold ≡ zone_check d x (page / 64) (replaced_places page) → PageBecomes page bytes x (with_page_at d page bytes x)
+    unfolding with_page_at
+    with_page_at-pages bytes size holds =
+        let z : ℕ = page / 64 in
+        let pages : List (List ℕ) = zone_pages x.mirror z in
+        let node : List ℕ = upper_node d (block_digests d bytes) in
+        let n2 : Place = Node 2 z (page % 64) in
+        let ws : List PlaceBytes = renewed d (zone_bytes d pages) n2 node (above_page page) in
+        let is : renewed d (taken x) n2 node (above_page page) ≡ ws = renewed-alike d (taken x) (zone_bytes d pages) n2 node (above_page page) (above_is holds) in
+        let own : List ℕ = with_page d x.zones page bytes x.mirror in
+        let changed : List (List ℕ) = replaced_pages d law x.zones x.mirror trees.sizes.mirror_size trees.nodes page bytes there size in
+        let update : ZoneUpdate d x.zones z x.mirror (with_places x.zones own (renewed d (taken x) n2 node (above_page page))) changed =
+        subst (λ (l : List PlaceBytes). ZoneUpdate d x.zones z x.mirror (with_places x.zones own l) changed) (sym is)
+        (page_update d law x.zones x.mirror trees.sizes.mirror_size trees.nodes page bytes there size) in
+        λ other below. page_after d x.zones page x.mirror (with_places x.zones own (renewed d (taken x) n2 node (above_page page))) bytes update other below
+
     pub with_page_at-hold : (bytes : List ℕ) → length bytes ≡ 4096 → AllHold ≡ zone_check d x (page / 64) (replaced_places page) → TreesHold d (with_page_at d page bytes x)
     unfolding with_page_at
     with_page_at-hold bytes size holds =
@@ -97,13 +127,7 @@ module _ (d : List ℕ → List ℕ) where
         let pages : List (List ℕ) = zone_pages x.mirror z in
         let node : List ℕ = upper_node d (block_digests d bytes) in
         let n2 : Place = Node 2 z (page % 64) in
-        let n3 : Place = Node 3 z (page % 64 / 8) in
-        let n4 : Place = Node 4 z 0 in
-        let same = replaced_same holds in
-        let tree = λ (q : Place) (of : IsOfZone z q). mirror_is d law x.zones x.mirror trees.sizes.mirror_size trees.nodes z (omega arith) q of in
-        let P = λ (q : Place). taken x q ≡ zone_bytes d pages q in
-        let above : All P (above_page page) =
-        All-cons P n3 (n4 ∷ []) (same 1 n3 (omega arith) ∙ tree n3 (refl, omega arith)) (All-cons P n4 [] (same 0 n4 (omega arith) ∙ tree n4 (refl, omega arith)) (All-nil P)) in
+        let above = above_is holds in
         let ws : List PlaceBytes = renewed d (zone_bytes d pages) n2 node (above_page page) in
         let is : renewed d (taken x) n2 node (above_page page) ≡ ws = renewed-alike d (taken x) (zone_bytes d pages) n2 node (above_page page) above in
         let root : List ℕ = renewed_root d (taken x) n2 node (above_page page) in

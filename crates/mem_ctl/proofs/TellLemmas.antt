@@ -1,11 +1,11 @@
 -- A sealed path that is told: the ways in which it ends.
-use Rattle.std.proofs.Common.{◌≡◌, ℕ, ◌*◌, ◌/◌, ◌%◌, ◌<◌, true, false, Option, Some, None, List, [], length, refl, subst, sym, ap, ◌∙◌, arith, IsTrue}
+use Rattle.std.proofs.Common.{◌≡◌, ℕ, ◌+◌, ◌*◌, ◌/◌, ◌%◌, ◌<◌, true, false, Option, Some, None, List, [], length, refl, subst, sym, ap, ◌∙◌, arith, IsTrue}
 use Rattle.std.specs.Prelude.{All, Bool, Err, is_some, not, ◌&&◌}
 use Rattle.std.specs.Option.{unwrap_or}
 use Rattle.std.proofs.lemmas.Bool.{cond-false, cond-true, false≢true}
 use Rattle.byteorder.specs.Endian.{little_bytes, little_number}
 use Rattle.byteorder.specs.Numbers.{length-bytes_low_first}
-use Rattle.pl_base.specs.Bytes.{bytes_at}
+use Rattle.pl_base.specs.Bytes.{bytes_at, with_bytes}
 use Rattle.pl_base.specs.Width.{is_width}
 use Rattle.pl_base.specs.declared.place.Place.{Place}
 use Rattle.pl_digest.specs.Trees.{zone_root}
@@ -27,10 +27,14 @@ use Rattle.mem_ctl.specs.declared.told.Op.{Op}
 use Rattle.mem_ctl.specs.declared.told.Op.TheVariants as op_is
 use Rattle.mem_ctl.specs.Tellings.{IsOpIn, is_whole, op_of, op_offset_of, told_outcome}
 use Rattle.mem_ctl.specs.TreesHold.{IsKept, TreesHold}
-use Rattle.mem_ctl.specs.Writes.{zone_pages}
+use Rattle.mem_ctl.specs.Writes.{word_at, zone_pages}
 use Rattle.mem_ctl.proofs.CallLemmas.{Ends, call_of, if_holds-goes, if_holds-stops}
 use Rattle.mem_ctl.proofs.SlotLemmas.{is_mounted-map, is_some-root_of, root_found, rooted_slot-zone}
-use Rattle.mem_ctl.proofs.WordCalls.{none_breaks, part_of, with_part-hold}
+use Rattle.mem_ctl.proofs.WordCalls.{none_breaks, part_of, with_part-hold, with_part-pages, word_of_block}
+use Rattle.mem_ctl.specs.WrittenPages.{PageBecomes, ToldPages}
+use Rattle.mem_geom.specs.Layout.{place_bytes}
+use Rattle.mem_geom.specs.Parts.{page_bytes}
+use Rattle.pl_base.specs.declared.place.Place.TheVariants.{Block}
 use Rattle.mem_ctl.proofs.ZoneLemmas.{word_path-written}
 
 pub whole_none : (o : Option Place) → is_whole (verdict_of o) ≡ true → o ≡ None
@@ -159,3 +163,27 @@ module _ (d : List ℕ → List ℕ) (law : (m : List ℕ) → length (d m) ≡ 
   pub told-mounted : (op : WordOp) → is_mounted (told d t op x).mounted (t.page / 64) ≡ true
   told-mounted (Read offset) = mounted
   told-mounted (Write offset width word) = mounted_same offset width word
+
+  pub told-wrote : (o : Op) → IsOpIn t.block o → ToldPages o t.page x (used (told d t (op_of o) x) (t.page / 64))
+  told-wrote (op_is.Read offset) fine = λ page h. refl
+  told-wrote (op_is.Write offset width value) fine =
+      let part : List ℕ = little_bytes width value in
+      let sum : 64 * t.block + offset % 64 ≡ offset = let own : offset / 64 ≡ t.block = fine.1 in omega arith in
+      subst (λ (k : ℕ). PageBecomes t.page (with_bytes (page_bytes x.mirror t.page) k part) x (told d t (Write offset width value) x)) sum
+      (with_part-pages d law x kept.trees t.page t.block there below mounted (part_bytes t.parts) as_written (offset % 64) part
+      (omega (arith, length-bytes_low_first 0 width value, (part_of width offset fine.2 fine.3).is_inside)))
+
+  -- the eight bytes that hold the part are as they were written
+  told-word : (offset : ℕ) → offset / 64 ≡ t.block → little_number 8 (bytes_at t.parts.block (offset % 64 / 8 * 8) 8) ≡ word_at x.mirror t.page (offset / 8 * 8)
+  told-word offset own =
+      let w : ℕ = offset / 8 * 8 in
+      let b : t.block ≡ w / 64 = omega arith in
+      let at : offset % 64 / 8 * 8 ≡ w % 64 = omega arith in
+      ap (λ (block : List ℕ). little_number 8 (bytes_at block (offset % 64 / 8 * 8) 8)) (as_written 4 (Block t.page t.block) (omega arith))
+      ∙ ap (λ (k : ℕ). little_number 8 (bytes_at (place_bytes x.zones x.mirror (Block t.page t.block)) k 8)) at
+      ∙ ap (λ (k : ℕ). little_number 8 (bytes_at (place_bytes x.zones x.mirror (Block t.page k)) (w % 64) 8)) b
+      ∙ word_of_block x.zones x.mirror t.page w (omega arith)
+
+  pub told-reads : (o : Op) → IsOpIn t.block o → little_number 8 (bytes_at t.parts.block (op_offset (op_of o) % 64 / 8 * 8) 8) ≡ word_at x.mirror t.page (op_offset_of o / 8 * 8)
+  told-reads (op_is.Read offset) fine = told-word offset fine.1
+  told-reads (op_is.Write offset width value) fine = told-word offset fine.1

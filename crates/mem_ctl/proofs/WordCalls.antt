@@ -38,7 +38,10 @@ use Rattle.mem_ctl.proofs.SlotLemmas.{root_found}
 use Rattle.mem_ctl.proofs.WordWrites.{new_pages, word_fit, word_root, word_update, word_written}
 use Rattle.mem_ctl.proofs.WriteLemmas.{AllFit, length-with_places}
 use Rattle.mem_ctl.proofs.ZoneLemmas.{mirror_is, word_path-written}
-use Rattle.mem_ctl.proofs.ZoneUpdates.{updated-hold}
+use Rattle.mem_ctl.proofs.ZoneUpdates.{ZoneUpdate, updated-hold}
+use Rattle.mem_ctl.proofs.PageParts.{page_after, part_pages}
+use Rattle.mem_ctl.specs.WrittenPages.{PageBecomes}
+use Rattle.mem_geom.specs.Parts.{page_bytes}
 
 -- a word is a part of its block
 pub word_of_block : (zones : ℕ) (memory : List ℕ) (page offset : ℕ) → offset % 8 ≡ 0
@@ -149,6 +152,19 @@ module _ (d : List ℕ → List ℕ) (law : (m : List ℕ) → length (d m) ≡ 
         (with_places x.zones x.off_chip wrote) (with_places x.zones x.mirror wrote) root
         (length-with_places x.zones wrote x.off_chip fit trees.sizes.off_chip_size)
         (word_update d law x.zones x.mirror trees.sizes.mirror_size trees.nodes page b at part there below inside) root_is)
+
+    -- the page has the part, and no other changes
+    pub with_part-pages : PageBecomes page (with_bytes (page_bytes x.mirror page) (64 * b + at) part) x (with_part d old page b at part x)
+    unfolding with_part
+    with_part-pages =
+        let ws : List PlaceBytes = renewed d old (Block page b) (with_bytes (old (Block page b)) at part) (above_block page b) in
+        let changed = λ (l : List PlaceBytes) (pages' : List (List ℕ)). ZoneUpdate d x.zones (page / 64) x.mirror (with_places x.zones x.mirror l) pages' in
+        let update : changed ws (new_pages d law x.zones x.mirror trees.sizes.mirror_size trees.nodes page b at part there below inside) =
+        subst (λ (l : List PlaceBytes). changed l (new_pages d law x.zones x.mirror trees.sizes.mirror_size trees.nodes page b at part there below inside)) (sym wrote_is)
+        (word_update d law x.zones x.mirror trees.sizes.mirror_size trees.nodes page b at part there below inside) in
+        λ other in_zones.
+        page_after d x.zones page x.mirror (with_places x.zones x.mirror ws) (with_bytes (page_bytes x.mirror page) (64 * b + at) part)
+        (subst (changed ws) (part_pages x.mirror page (64 * b + at) part) update) other in_zones
 
 -- ---- parts, and paths whose check holds
 

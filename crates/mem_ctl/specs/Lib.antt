@@ -7,4 +7,5 @@ pub mod Results
 pub mod Tellings
 pub mod TreesHold
 pub mod Words
+pub mod WrittenPages
 pub mod Writes

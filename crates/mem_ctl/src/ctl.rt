@@ -108,7 +108,8 @@ impl<D: Digester, F> Ctl<D, F> {
 
     /// The mounted zones with their uses, in order of mounting.
     pub fn mounted(&self) -> &[SlotUse]
-        ensures { result.now ≡ map use_of self.now.0.mounted }
+        ensures list { result.now ≡ map use_of self.now.0.mounted }
+        ensures few { length result.now ≤ self.now.0.slots }
     {
         self.slots.list()
     }

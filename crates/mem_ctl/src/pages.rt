@@ -12,6 +12,7 @@ ghost use Rattle.mem_ctl.specs.Results.{IsCall, checked_of, outcome_of};
 ghost use Rattle.mem_ctl.specs.Opened.{IsOpenedZone, IsRefused};
 ghost use Rattle.mem_ctl.specs.Pages.{got_outcome, page_place, page_written};
 ghost use Rattle.mem_ctl.specs.TreesHold.{IsKept};
+ghost use Rattle.mem_ctl.specs.WrittenPages.{PageBecomes, PagesStay};
 
 use crate::broken::Broken;
 use crate::check::{check_places, read_place, write_place};
@@ -30,6 +31,7 @@ impl<D: Digester, F: Fn(&[SlotUse]) -> usize> Ctl<D, F> {
         requires choice { NamesPosition F.Fn self.old.1 }
         ensures call { IsCall (FnReturnsAt F.Fn self.old.1) (get_page_of D.digest_of page) self.old.0 (got_outcome into.new result) self.new.0 }
         ensures page { OnOk result (into.new ≡ page_bytes self.old.0.mirror page) }
+        ensures kept { PagesStay self.old.0 self.new.0 }
         ensures err { OnErr result (into.new ≡ into.old) }
         ensures choice { self.new.1 ≡ self.old.1 }
     {
@@ -46,6 +48,8 @@ impl<D: Digester, F: Fn(&[SlotUse]) -> usize> Ctl<D, F> {
         requires page { page < 64 * self.old.0.zones }
         requires choice { NamesPosition F.Fn self.old.1 }
         ensures call { IsCall (FnReturnsAt F.Fn self.old.1) (put_page_of D.digest_of page bytes.now) self.old.0 (outcome_of result) self.new.0 }
+        ensures pages { OnOk result (PageBecomes page bytes.now self.old.0 self.new.0) }
+        ensures kept { OnErr result (PagesStay self.old.0 self.new.0) }
         ensures choice { self.new.1 ≡ self.old.1 }
     {
         let _zones = self.zones;

@@ -1,5 +1,5 @@
 // Paths that were sealed outside of the controller.
-ghost use Rattle.std.specs.Prelude.{◌≡◌, ◌<◌, ◌*◌, ◌/◌, ◌%◌, ◌&&◌, true, None, not};
+ghost use Rattle.std.specs.Prelude.{◌≡◌, ◌<◌, ◌*◌, ◌/◌, ◌%◌, ◌&&◌, true, None, not, IfOk, OnErr, OnOk};
 ghost use Rattle.std.specs.Fn.{FnReturnsAt};
 ghost use Rattle.mem_slots.specs.Slots.{is_mounted, root_of};
 ghost use Rattle.mem_tree.specs.Paths.{first_break};
@@ -10,6 +10,8 @@ ghost use Rattle.mem_ctl.specs.Opened.{word_of_taken};
 ghost use Rattle.mem_ctl.specs.Results.{IsCall};
 ghost use Rattle.mem_ctl.specs.Tellings.{IsOpIn, is_whole, op_of, op_offset_of, told_outcome};
 ghost use Rattle.mem_ctl.specs.TreesHold.{IsKept};
+ghost use Rattle.mem_ctl.specs.Writes.{word_at};
+ghost use Rattle.mem_ctl.specs.WrittenPages.{ToldPages};
 
 use crate::broken::Broken;
 use crate::ctl::Ctl;
@@ -46,6 +48,9 @@ impl<D: Digester, F: Fn(&[SlotUse]) -> usize> Ctl<D, F> {
         requires page { sealed.now.page < 64 * self.old.0.zones }
         requires op { IsOpIn sealed.now.block_no op }
         ensures call { IsCall (FnReturnsAt F.Fn self.old.1) (tell_of D.digest_of (word_of_taken sealed.now) (op_of op)) self.old.0 (told_outcome result) self.new.0 }
+        ensures word { IfOk result (λ word. word ≡ word_at self.old.0.mirror sealed.now.page (op_offset_of op / 8 * 8)) }
+        ensures pages { OnOk result (ToldPages op sealed.now.page self.old.0 self.new.0) }
+        ensures refused { OnErr result (self.new.0 ≡ self.old.0) }
         ensures choice { self.new.1 ≡ self.old.1 }
     {
         let _zones = self.zones;

@@ -1,10 +1,11 @@
 // Words through the trees.
-ghost use Rattle.std.specs.Prelude.{◌≡◌, ◌≤◌, ◌<◌, ◌*◌, ◌/◌, ◌%◌, ◌+◌, true, length, IfOk, IfErr, IsTrue};
+ghost use Rattle.std.specs.Prelude.{◌≡◌, ◌≤◌, ◌<◌, ◌*◌, ◌/◌, ◌%◌, ◌+◌, true, length, IfOk, IfErr, OnErr, OnOk, IsTrue};
 ghost use Rattle.std.specs.Fn.{FnReturnsAt};
-ghost use Rattle.byteorder.specs.Endian.{little_number};
-ghost use Rattle.pl_base.specs.Bytes.{bytes_at};
+ghost use Rattle.byteorder.specs.Endian.{little_bytes, little_number};
+ghost use Rattle.pl_base.specs.Bytes.{bytes_at, with_bytes};
 ghost use Rattle.pl_base.specs.Width.{is_width};
 ghost use Rattle.mem_geom.specs.Layout.{memory_size};
+ghost use Rattle.mem_geom.specs.Parts.{page_bytes};
 ghost use Rattle.mem_geom.specs.PathPlaces.{word_places};
 ghost use Rattle.mem_slots.specs.Choices.{NamesPosition};
 ghost use Rattle.mem_slots.specs.Slots.{is_mounted};
@@ -16,6 +17,7 @@ ghost use Rattle.mem_ctl.specs.Results.{IsCall, outcome_of};
 ghost use Rattle.mem_ctl.specs.TreesHold.{IsKept};
 ghost use Rattle.mem_ctl.specs.Words.{path_written, stored};
 ghost use Rattle.mem_ctl.specs.Writes.{with_places, word_at};
+ghost use Rattle.mem_ctl.specs.WrittenPages.{PageBecomes, PagesStay};
 
 use crate::broken::Broken;
 use crate::check::{read_place, write_place};
@@ -40,6 +42,7 @@ impl<D: Digester, F: Fn(&[SlotUse]) -> usize> Ctl<D, F> {
         // What it answers and leaves is its function of the data; so a word that it gives is the mirror's.
         ensures call { IsCall (FnReturnsAt F.Fn self.old.1) (read_word_of D.digest_of page offset) self.old.0 (outcome_of result) self.new.0 }
         ensures word { IfOk result (λ word. word ≡ word_at self.old.0.mirror page offset) }
+        ensures kept { PagesStay self.old.0 self.new.0 }
         ensures choice { self.new.1 ≡ self.old.1 }
     {
         let _zones = self.zones;
@@ -64,6 +67,8 @@ impl<D: Digester, F: Fn(&[SlotUse]) -> usize> Ctl<D, F> {
         requires aligned { offset % width ≡ 0 }
         requires choice { NamesPosition F.Fn self.old.1 }
         ensures call { IsCall (FnReturnsAt F.Fn self.old.1) (write_part_of D.digest_of page offset width value) self.old.0 (outcome_of result) self.new.0 }
+        ensures pages { OnOk result (PageBecomes page (with_bytes (page_bytes self.old.0.mirror page) offset (little_bytes width value)) self.old.0 self.new.0) }
+        ensures kept { OnErr result (PagesStay self.old.0 self.new.0) }
         ensures choice { self.new.1 ≡ self.old.1 }
     {
         let _zones = self.zones;
@@ -84,6 +89,7 @@ impl<D: Digester, F: Fn(&[SlotUse]) -> usize> Ctl<D, F> {
         requires offset { offset < 4096 }
         requires choice { NamesPosition F.Fn self.old.1 }
         ensures call { IsCall (FnReturnsAt F.Fn self.old.1) (ask_of D.digest_of page offset) self.old.0 (asked_outcome result) self.new.0 }
+        ensures kept { PagesStay self.old.0 self.new.0 }
         ensures choice { self.new.1 ≡ self.old.1 }
     {
         let _zones = self.zones;

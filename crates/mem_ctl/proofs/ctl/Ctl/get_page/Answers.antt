@@ -16,6 +16,9 @@ use Rattle.mem_ctl.specs.Opened.{IsOpenedZone, IsRefusedThen}
 use Rattle.mem_ctl.specs.Results.{IsCall, outcome_of}
 use Rattle.mem_ctl.proofs.AccessCalls.{access_gives, access_refused, access_stops}
 use Rattle.mem_ctl.proofs.PageCalls.{got_broken}
+use Rattle.mem_ctl.proofs.PagesWritten.{pages_stay, refused-keeps}
+use Rattle.mem_ctl.proofs.MountLemmas.{Keeps}
+use Rattle.mem_ctl.proofs.ReadLemmas.{opened-keeps}
 use Rattle.mem_ctl.proofs.PageReads.{opened-page}
 use Rattle.mem_ctl.specs.TreesHold.{IsKept}
 use Rattle.mem_ctl.proofs.ZoneLemmas.{of_zone-exists, page-of_zone}
@@ -88,3 +91,21 @@ returns-clause-page g c =
     c.read.ensures ∙ ap (λ (k : ℕ). bytes_at off k (length c.args.into.now)) at ∙ ap (λ (n : ℕ). bytes_at off (4096 * page) n) c.told-into ∙ ap (λ v. page_bytes v.0.off_chip page) c.self-2.view_is in
     let kept : IsKept d old = subst (λ v. IsKept d v.0) c.self.view_is c.self.invariant in
     got ∙ opened-page d g.met.D.Digester.digest_length gives old kept page c.requires.page h.between new h.mounts h.now (subst (λ (ps : List Place). AllHold ≡ zone_check d new (page / 64) ps) c.page_places.ensures h.holds)
+
+pub returns-in-Err-clause-kept : goal.returns-in-Err-clause-kept
+returns-in-Err-clause-kept g c =
+    let d = g.D.Digester.digest_of in
+    let old : CtlData = c.args.self.now.0 in
+    let kept : IsKept d old = subst (λ v. IsKept d v.0) c.self.view_is c.self.invariant in
+    pages_stay d old c.open_zone.new.self.0
+    (refused-keeps d g.met.D.Digester.digest_length (FnReturnsAt g.F.Fn c.args.self.now.1) old kept c.args.page c.requires.page c.page_places.result c.in-Err.broken c.open_zone.new.self.0 c.in-Err.ensures.err)
+
+pub returns-clause-kept : goal.returns-clause-kept
+returns-clause-kept g c =
+    let d = g.D.Digester.digest_of in
+    let old : CtlData = c.args.self.now.0 in
+    let new : CtlData = c.open_zone.new.self.0 in
+    let kept : IsKept d old = subst (λ v. IsKept d v.0) c.self.view_is c.self.invariant in
+    let gives : List SlotUse → ℕ → Type 0 = FnReturnsAt g.F.Fn c.args.self.now.1 in
+    let h : IsOpenedZone gives d c.args.page c.page_places.result old new = c.in_default.ensures.ok in
+    pages_stay d old new (subst (Keeps d old) (sym h.now) (opened-keeps d g.met.D.Digester.digest_length gives old kept c.args.page c.requires.page h.between h.mounts))

@@ -1,4 +1,4 @@
-use Rattle.std.proofs.Common.{◌≡◌, ℕ, ◌/◌, ◌%◌, List, ap, ◌∙◌, sym, subst, ⊎_elim}
+use Rattle.std.proofs.Common.{◌≡◌, ℕ, ◌/◌, ◌%◌, List, arith, ap, ◌∙◌, sym, subst, ⊎_elim}
 use Rattle.std.specs.Prelude.{Err}
 use Rattle.std.specs.Fn.{FnReturnsAt}
 use Rattle.byteorder.specs.Endian.{little_number}
@@ -14,7 +14,8 @@ use Rattle.mem_ctl.specs.Results.{IsCall, outcome_of}
 use Rattle.mem_ctl.specs.TreesHold.{IsKept}
 use Rattle.mem_ctl.specs.Writes.{word_at}
 use Rattle.mem_ctl.proofs.AccessCalls.{access_gives, access_refused, access_stops}
-use Rattle.mem_ctl.proofs.ReadLemmas.{opened-word}
+use Rattle.mem_ctl.proofs.ReadLemmas.{opened-kept, opened-word}
+use Rattle.mem_ctl.proofs.PagesWritten.{pages_stay, refused-keeps}
 use Rattle.mem_ctl.proofs.WordCalls.{word_of_block}
 use Rattle.mem_ctl.proofs.ctl.Ctl.read_word.Goals as goal
 
@@ -69,3 +70,20 @@ returns-in-Err-clause-call g c =
     subst (IsCall gives (accessed d page places value same) old (outcome_of (Err b))) (sym h.now)
     (access_refused gives d page places value same old b h.between h.mounts (h.is ∙ ap (λ (w : CtlData). zone_check d w (page / 64) places) h.now)))
     c.in-Err.ensures.err
+
+pub returns-in-Ok-clause-kept : goal.returns-in-Ok-clause-kept
+returns-in-Ok-clause-kept g c =
+    let d = g.D.Digester.digest_of in
+    let old : CtlData = c.args.self.now.0 in
+    let new : CtlData = c.open_word.new.self.0 in
+    let h = c.in-Ok.ensures.ok in
+    let kept : IsKept d old = subst (λ v. IsKept d v.0) c.self.view_is c.self.invariant in
+    pages_stay d old new (opened-kept d g.met.D.Digester.digest_length (FnReturnsAt g.F.Fn c.args.self.now.1) old kept c.args.page c.requires.page (c.args.offset / 64) (omega (arith, c.requires.offset)) c.in-Ok.sealed new h)
+
+pub returns-in-Err-clause-kept : goal.returns-in-Err-clause-kept
+returns-in-Err-clause-kept g c =
+    let d = g.D.Digester.digest_of in
+    let old : CtlData = c.args.self.now.0 in
+    let kept : IsKept d old = subst (λ v. IsKept d v.0) c.self.view_is c.self.invariant in
+    pages_stay d old c.open_word.new.self.0
+    (refused-keeps d g.met.D.Digester.digest_length (FnReturnsAt g.F.Fn c.args.self.now.1) old kept c.args.page c.requires.page (word_places c.args.page (c.args.offset / 64)) c.in-Err.broken c.open_word.new.self.0 c.in-Err.ensures.err)

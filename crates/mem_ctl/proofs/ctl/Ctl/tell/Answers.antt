@@ -16,7 +16,8 @@ use Rattle.mem_ctl.specs.Opened.{word_of_taken}
 use Rattle.mem_ctl.specs.Results.{IsCall, checked_of}
 use Rattle.mem_ctl.specs.Tellings.{op_of}
 use Rattle.mem_ctl.specs.TreesHold.{IsKept}
-use Rattle.mem_ctl.proofs.TellLemmas.{not_stale, same_offset, stale, stands-mounted, tell_again, tell_gives, tell_refused, told-kept, told-mounted, told_broken, told_holds, word_op}
+use Rattle.mem_ctl.specs.WrittenPages.{ToldPages}
+use Rattle.mem_ctl.proofs.TellLemmas.{not_stale, same_offset, stale, stands-mounted, tell_again, tell_gives, tell_refused, told-kept, told-mounted, told-reads, told-wrote, told_broken, told_holds, word_op}
 use Rattle.mem_ctl.proofs.ctl.Ctl.tell.Goals as goal
 
 pub returns-then-is_stale-clause-call : goal.returns-then-is_stale-clause-call
@@ -122,3 +123,37 @@ returns-clause-call g c =
     ap (λ v. v.0) c.count.ensures ∙ ap (λ v. used v.0 (c.taken-taken.result.now.page / 64)) c.obey.ensures ∙ ap (λ q. used (told d t o x) (q.page / 64)) c.taken-taken.ensures.taken in
     subst (λ (a : ℕ). IsCall gives (tell_of d t o) x (Value a) c.count.new.self.0) (sym word)
     (subst (IsCall gives (tell_of d t o) x (Value (little_number 8 (bytes_at s.block (op_offset o % 64 / 8 * 8) 8)))) (sym new) (tell_gives gives d x t o stands holds))
+
+pub returns-clause-word : goal.returns-clause-word
+returns-clause-word g c =
+    let d = g.D.Digester.digest_of in
+    let s = c.args.sealed.now in
+    let x : CtlData = c.args.self.now.0 in
+    let i = c.self.inside in
+    let t : TakenWord = word_of_taken s in
+    let o : WordOp = op_of c.args.op in
+    let gives : List SlotUse → ℕ → Type 0 = FnReturnsAt g.F.Fn c.args.self.now.1 in
+    let kept : IsKept d x = subst (λ v. IsKept d v.0) c.self.view_is c.self.invariant in
+    let is : AllHold ≡ check d (taken_path s) (place_bytes i.zones i.mirror) = search rules in
+    let holds : AllHold ≡ check d (path_in t) (written x) = is ∙ ap (λ v. check d (taken_path s) (written v.0)) c.self.view_is in
+    let stands = not_stale (first_break d (taken_path s)) (root_stands s.root (root_of x.mounted (s.page / 64))) (sym c.is_stale.ensures ∙ c.if-is_stale.false) (told_holds gives d x t o holds) in
+    c.word_in-word.ensures ∙ ap (λ q. little_number 8 (bytes_at q.block c.word_start.result 8)) c.taken-taken.ensures.taken
+    ∙ ap (λ (k : ℕ). little_number 8 (bytes_at s.block k 8)) (c.word_start.ensures ∙ ap (λ (k : ℕ). k % 64 / 8 * 8) (same_offset c.args.op))
+    ∙ told-reads d g.met.D.Digester.digest_length x kept t c.requires.page c.taken-taken.ensures.in_range.block stands holds c.args.op c.requires.op
+
+pub returns-clause-pages : goal.returns-clause-pages
+returns-clause-pages g c =
+    let d = g.D.Digester.digest_of in
+    let s = c.args.sealed.now in
+    let x : CtlData = c.args.self.now.0 in
+    let i = c.self.inside in
+    let t : TakenWord = word_of_taken s in
+    let o : WordOp = op_of c.args.op in
+    let gives : List SlotUse → ℕ → Type 0 = FnReturnsAt g.F.Fn c.args.self.now.1 in
+    let kept : IsKept d x = subst (λ v. IsKept d v.0) c.self.view_is c.self.invariant in
+    let is : AllHold ≡ check d (taken_path s) (place_bytes i.zones i.mirror) = search rules in
+    let holds : AllHold ≡ check d (path_in t) (written x) = is ∙ ap (λ v. check d (taken_path s) (written v.0)) c.self.view_is in
+    let stands = not_stale (first_break d (taken_path s)) (root_stands s.root (root_of x.mounted (s.page / 64))) (sym c.is_stale.ensures ∙ c.if-is_stale.false) (told_holds gives d x t o holds) in
+    let new : c.count.new.self.0 ≡ used (told d t o x) (s.page / 64) =
+    ap (λ v. v.0) c.count.ensures ∙ ap (λ v. used v.0 (c.taken-taken.result.now.page / 64)) c.obey.ensures ∙ ap (λ q. used (told d t o x) (q.page / 64)) c.taken-taken.ensures.taken in
+    subst (ToldPages c.args.op s.page x) (sym new) (told-wrote d g.met.D.Digester.digest_length x kept t c.requires.page c.taken-taken.ensures.in_range.block stands holds c.args.op c.requires.op)

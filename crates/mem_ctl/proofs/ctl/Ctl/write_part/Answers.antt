@@ -1,4 +1,4 @@
-use Rattle.std.proofs.Common.{◌≡◌, ℕ, ◌+◌, ◌/◌, ◌%◌, ◌≤◌, List, length, rules, arith, ap, ◌∙◌, sym, subst, ⊎_elim}
+use Rattle.std.proofs.Common.{◌≡◌, ℕ, ◌+◌, ◌/◌, ◌%◌, ◌≤◌, ◌<◌, List, length, rules, arith, ap, ◌∙◌, sym, subst, ⊎_elim}
 use Rattle.std.specs.Prelude.{Err}
 use Rattle.std.specs.Fn.{FnReturnsAt}
 use Rattle.byteorder.specs.Endian.{little_bytes}
@@ -16,6 +16,7 @@ use Rattle.mem_ctl.specs.Words.{IsNewPath, stored}
 use Rattle.mem_ctl.proofs.AccessCalls.{access_gives, access_refused, access_stops}
 use Rattle.mem_ctl.proofs.ReadLemmas.{opened-holds, opened-stored, opened-stored_kept}
 use Rattle.mem_ctl.proofs.WordCalls.{part_of}
+use Rattle.mem_ctl.proofs.PagesWritten.{opened-pages, pages_stay, refused-keeps}
 use Rattle.mem_ctl.proofs.ctl.Ctl.write_part.Goals as goal
 
 pub with_part-path-requires-clause-holds : goal.with_part-path-requires-clause-holds
@@ -80,3 +81,34 @@ returns-in-Err-clause-call g c =
     subst (IsCall gives (accessed d {A = Unit {0}} page places (λ (x : CtlData). tt) change) old (outcome_of (Err broken))) (sym h.now)
     (access_refused gives d {A = Unit {0}} page places (λ (x : CtlData). tt) change old broken h.between h.mounts (h.is ∙ ap (λ (w : CtlData). zone_check d w (page / 64) places) h.now)))
     c.in-Err.ensures.err
+
+pub returns-in-Ok-clause-pages : goal.returns-in-Ok-clause-pages
+returns-in-Ok-clause-pages g c =
+    let d = g.D.Digester.digest_of in
+    let law = g.met.D.Digester.digest_length in
+    let page : ℕ = c.args.page in
+    let b : ℕ = c.args.offset / 64 in
+    let old : CtlData = c.args.self.now.0 in
+    let new : CtlData = c.open_word.new.self.0 in
+    let kept : IsKept d old = subst (λ v. IsKept d v.0) c.self.view_is c.self.invariant in
+    let gives : List SlotUse → ℕ → Type 0 = FnReturnsAt g.F.Fn c.args.self.now.1 in
+    let h = c.in-Ok.ensures.ok in
+    let t = c.in-Ok.sealed in
+    let at : ℕ = c.args.offset % 64 in
+    let part : List ℕ = little_bytes c.args.width c.args.value in
+    let path = c.with_part-path.result in
+    let inside : at + length part ≤ 64 = omega (arith, length-bytes_low_first 0 c.args.width c.args.value, (part_of c.args.width c.args.offset c.requires.width c.requires.aligned).is_inside) in
+    let own : IsNewPath d (parts_of t) t.page t.block_no at part path = search rules in
+    let is : IsNewPath d (parts_of t) page b at part path =
+    subst (λ (k : ℕ). IsNewPath d (parts_of t) page k at part path) h.own_block (subst (λ (p : ℕ). IsNewPath d (parts_of t) p t.block_no at part path) h.own_page own) in
+    let inside_page : b < 64 = omega (arith, c.requires.offset) in
+    let done : stored new page b path ≡ c.store.new.self.0 = sym (ap (λ v. v.0) c.store.ensures) in
+    opened-pages d law gives old kept page c.requires.page b inside_page t new h at part inside path is c.args.offset (omega arith) c.store.new.self.0 done
+
+pub returns-in-Err-clause-kept : goal.returns-in-Err-clause-kept
+returns-in-Err-clause-kept g c =
+    let d = g.D.Digester.digest_of in
+    let old : CtlData = c.args.self.now.0 in
+    let kept : IsKept d old = subst (λ v. IsKept d v.0) c.self.view_is c.self.invariant in
+    pages_stay d old c.open_word.new.self.0
+    (refused-keeps d g.met.D.Digester.digest_length (FnReturnsAt g.F.Fn c.args.self.now.1) old kept c.args.page c.requires.page (word_places c.args.page (c.args.offset / 64)) c.in-Err.broken c.open_word.new.self.0 c.in-Err.ensures.err)
