@@ -3,7 +3,7 @@ use Rattle.std.proofs.Common.{◌≡◌, ◌≢◌, ℕ, zero, suc, ◌+◌, ◌
 use Rattle.std.specs.List.{list_all}
 use Rattle.std.proofs.lemmas.List.{length-map}
 use Rattle.std.proofs.lemmas.Option.{same_Some}
-use Rattle.std.proofs.lemmas.Bool.{cases_Bool, eqb-true, eqb-false, false≢true}
+use Rattle.std.proofs.lemmas.Bool.{and_parts, cases_Bool, eqb-true, eqb-false, false≢true}
 use Rattle.pl_base.specs.declared.number.EncNo.{EncNo}
 use Rattle.pl_base.specs.declared.refusal.No.{No}
 use Rattle.pl_base.specs.declared.refusal.No.TheVariants.{NoEnclave, WrongState}
@@ -42,21 +42,17 @@ use Rattle.world_core.proofs.LineLemmas.{two_answers, refused, later, number_twi
 
 -- ---- what a setup's images meet
 
-both : (a b : Bool) → a && b ≡ true → (a ≡ true) × (b ≡ true)
-both true b e = (refl, e)
-both false b e = cc
-
 pub each_holds : {A : Type 0} (test : A → Bool) (xs : List A) (i : ℕ) (x : A) → list_all test xs ≡ true → slice_get xs i ≡ Some x → test x ≡ true
 each_holds test [] i x all here = cc
-each_holds test (y ∷ ys) zero x all here = (let e : y ≡ x = cc in ap test (sym e) ∙ (both (test y) (list_all test ys) all).0)
-each_holds test (y ∷ ys) (suc i) x all here = each_holds test ys i x (both (test y) (list_all test ys) all).1 here
+each_holds test (y ∷ ys) zero x all here = (let e : y ≡ x = cc in ap test (sym e) ∙ (and_parts (test y) (list_all test ys) all).0)
+each_holds test (y ∷ ys) (suc i) x all here = each_holds test ys i x (and_parts (test y) (list_all test ys) all).1 here
 
 entry_aligned : (setup : SetupParts) (i : ℕ) (image : Image) → IsSetup setup → slice_get setup.images i ≡ Some image → image.entry % 4 ≡ 0
 entry_aligned setup i image rules here =
-    let all = (both _ (list_all is_image setup.images) rules.images).1 in
+    let all = (and_parts _ (list_all is_image setup.images) rules.images).1 in
     let one = each_holds is_image setup.images i image all here in
-    let entry = (both (is_entry (length image.pages) image.entry) _ one).0 in
-    eqb-true (image.entry % 4) 0 (both (eqb (image.entry % 4) 0) _ entry).0
+    let entry = (and_parts (is_entry (length image.pages) image.entry) _ one).0 in
+    eqb-true (image.entry % 4) 0 (and_parts (eqb (image.entry % 4) 0) _ entry).0
 
 -- ---- `create`
 

@@ -5,6 +5,7 @@ use Rattle.std.specs.Option.{option_or}
 use Rattle.std.proofs.lemmas.Bool.Decides.{nat_tests}
 use Rattle.std.proofs.lemmas.Option.{slice_get_cases, get_or_from_slice_get}
 use Rattle.std.proofs.lemmas.List.Sums.{prefix_len_passes}
+use Rattle.std.proofs.lemmas.Bool.{and_parts}
 use Rattle.pl_history.specs.declared.line.Line.{Line}
 use Rattle.pl_history.specs.declared.setup.SetupParts.{SetupParts}
 use Rattle.pl_history.specs.Rules.{IsSetup}
@@ -14,10 +15,6 @@ use Rattle.world_core.specs.Unbuilt.{is_built, attack_after, first_unbuilt_line,
 chosen : (one : Bool) (o : Option ℕ) → cond one o (Some 0) ≡ None → (one ≡ true) × (o ≡ None)
 chosen true o h = (refl, h)
 chosen false o h = (cc, cc)
-
-both : (a b : Bool) → (a && b) ≡ true → (a ≡ true) × (b ≡ true)
-both true b h = (refl, h)
-both false b h = (cc, cc)
 
 neither : (o p : Option ℕ) → option_or o p ≡ None → (o ≡ None) × (p ≡ None)
 neither None p h = (refl, h)
@@ -30,7 +27,7 @@ none_after count n h = grind (arith, nat_tests)
 built_parts : (s : SetupParts) → first_unbuilt_of s ≡ None → (eqb s.harts 1 ≡ true) × (position (λ line. not (is_built line)) (joined s.lines) ≡ None) × (attack_after (length (joined s.lines)) s.attacker ≡ None)
 built_parts s none =
     let whole = chosen (eqb s.harts 1 && eqb (length s.pmp) 0) (first_unbuilt_line (joined s.lines) s.attacker) none in
-    let first = both (eqb s.harts 1) (eqb (length s.pmp) 0) whole.0 in
+    let first = and_parts (eqb s.harts 1) (eqb (length s.pmp) 0) whole.0 in
     let rest = neither (position (λ line. not (is_built line)) (joined s.lines)) (attack_after (length (joined s.lines)) s.attacker) whole.1 in
     (first.0, rest.0, rest.1)
 

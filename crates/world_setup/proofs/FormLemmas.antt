@@ -8,6 +8,7 @@ use Rattle.std.proofs.lemmas.List.Sums.{sum_by-cons}
 use Rattle.hex.specs.Hex.{decode_of}
 use Rattle.hex.specs.declared.error.FromHexError.{FromHexError}
 use Rattle.hex.proofs.HexLemmas.{decode_of-ok}
+use Rattle.std.proofs.lemmas.Bool.{and_parts}
 use Rattle.pl_base.specs.declared.perms.Perms.{Perms}
 use Rattle.pl_io.specs.Numbers.{is_hex_digit, hex_value, dec_value}
 use Rattle.pl_history.specs.declared.line.Line.{Line}
@@ -21,7 +22,6 @@ use Rattle.world_setup.specs.Words.{parts_of, words_of}
 use Rattle.world_setup.specs.Arguments.{within, small_number_of, short_of, enclave_of, budget_of, length_of, address_of, perms_of_text, decoded, bytes_of_hex, hex_bytes_of, name_of}
 use Rattle.world_setup.specs.PageLists.{all_ranges, range_length, range_pages, pages_of_ranges, page_list_of}
 use Rattle.world_setup.specs.Forms.{line_of_one, line_of_two, line_of_three, line_of_words, line_of, attack_line_of_one, attack_line_of_two, attack_line_of_three, attack_line_of_words, attack_line_of}
-use Rattle.world_setup.proofs.Parts.{both_parts}
 use Rattle.world_setup.proofs.Passes.{Passes, none_passes, some_passes, if_passes, guarded_passes, map_passes, both_passes, three_pass}
 
 -- ---- arguments
@@ -31,7 +31,7 @@ within_passes low high None = none_passes (is_within low high)
 within_passes low high (Some n) = guarded_passes (is_within low high) (is_within low high n) (Some n) (λ pass. some_passes (is_within low high) n pass)
 
 at_least_1 : (text : List ℕ) (n : ℕ) → budget_of text ≡ Some n → nat_le 1 n ≡ true
-at_least_1 text n is = (both_parts (nat_le 1 n) (nat_le n 0xffff_ffff) (within_passes 1 0xffff_ffff (dec_value text) n is)).0
+at_least_1 text n is = (and_parts (nat_le 1 n) (nat_le n 0xffff_ffff) (within_passes 1 0xffff_ffff (dec_value text) n is)).0
 
 pub perms_pass : (text : List ℕ) → Passes (λ (p : Perms). are_page_perms p) (perms_of_text text)
 perms_pass text =
@@ -71,7 +71,7 @@ hex_bytes_pass text =
     let test = λ (bytes : List ℕ). is_within 1 4096 (length bytes) in
     guarded_passes test (nat_le 1 (length text)) (bytes_of_hex text) (λ low.
     guarded_passes test (nat_le (length text) 8192 && list_all is_hex_digit text) (decoded (decode_of text)) (λ all.
-    decoded_pass text (decode_of text) refl low (both_parts (nat_le (length text) 8192) (list_all is_hex_digit text) all).0))
+    decoded_pass text (decode_of text) refl low (and_parts (nat_le (length text) 8192) (list_all is_hex_digit text) all).0))
 
 name_passes : (text : List ℕ) → Passes is_name (name_of text)
 name_passes text = guarded_passes is_name (is_name text) (Some text) (λ pass. some_passes is_name text pass)

@@ -6,7 +6,6 @@ pub mod Chains
 pub mod Positions
 pub mod Steps
 pub mod ImageRules
-pub mod Parts
 pub mod Passes
 pub mod Ranges
 pub mod FirstWords
