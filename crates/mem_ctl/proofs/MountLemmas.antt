@@ -1,5 +1,5 @@
 -- Mounting and evicting keep the trees.
-use Rattle.std.proofs.Common.{◌≡◌, ℕ, ◌/◌, ◌%◌, ◌<◌, ◌==◌, true, false, List, length, get_or, ⊎_elim, refl, sym, ap, ◌∙◌, arith}
+use Rattle.std.proofs.Common.{◌≡◌, ℕ, ◌/◌, ◌%◌, ◌<◌, ◌==◌, true, false, List, [], ◌∷◌, length, get_or, ⊎_elim, refl, subst, sym, ap, ◌∙◌, arith}
 use Rattle.std.specs.Prelude.{remove}
 use Rattle.std.proofs.lemmas.Bool.{cases_Bool, eqb-true, eqb-false, ne_eqb}
 use Rattle.std.proofs.lemmas.List.Elements.{All-push}
@@ -8,24 +8,34 @@ use Rattle.pl_digest.specs.Nodes.{entry, with_entry}
 use Rattle.pl_digest.specs.Trees.{zone_root}
 use Rattle.mem_geom.specs.Layout.{place_bytes}
 use Rattle.mem_slots.specs.Slots.{Slot, is_mounted, slot, slot_at}
+use Rattle.mem_tree.specs.Changes.{at_place}
 use Rattle.mem_tree.specs.Checks.{Holds as AllHold}
 use Rattle.mem_tree.specs.Trees.{zone_bytes}
 use Rattle.mem_ctl.specs.Data.{CtlData}
 use Rattle.mem_ctl.specs.Mounting.{evicted_at, mounted_last, node_with, root_check, written_back}
 use Rattle.mem_ctl.specs.TreesHold.{TreesHold, root_entry}
 use Rattle.mem_ctl.specs.Writes.{zone_pages}
+use Rattle.mem_ctl.specs.WrittenPages.{KeepsZones}
+use Rattle.mem_ctl.proofs.Agreement.{StillAgree, StillAgree-then, with_places-agree}
 use Rattle.mem_ctl.proofs.RootLemmas.{RootWritten, entry-other, entry-with_entry, length-place, length-with_entry, node_is_other, other_node, root_nodes-alike, root_written, zone_node_is_other}
 use Rattle.mem_ctl.proofs.SlotLemmas.{All-remove, SlotsFit-push, SlotsFit-remove, none_before, removed}
 
--- what a step of mounting leaves: the trees hold, and each zone has the pages that it had
+-- what a step of mounting leaves: the trees hold, each zone has the pages that it had, and bytes that were as written still are
 pub record Keeps (d : List ℕ → List ℕ) (x y : CtlData) : Type 0 where
   pub trees : TreesHold d y
   pub zones_kept : y.zones ≡ x.zones
   pub slots_kept : y.slots ≡ x.slots
   pub pages_kept : (zone : ℕ) → zone < x.zones → zone_pages y.mirror zone ≡ zone_pages x.mirror zone
+  pub held_kept : (zone : ℕ) → zone < x.zones → zone_pages y.off_chip zone ≡ zone_pages x.off_chip zone
+  pub off_chip_front : KeepsZones x.zones x.off_chip y.off_chip
+  pub mirror_front : KeepsZones x.zones x.mirror y.mirror
+  pub agree : StillAgree x.off_chip x.mirror y.off_chip y.mirror
 
 pub Keeps-refl : (d : List ℕ → List ℕ) (x : CtlData) → TreesHold d x → Keeps d x x
-Keeps-refl d x trees = record { trees = trees; zones_kept = refl; slots_kept = refl; pages_kept = λ zone there. refl }
+Keeps-refl d x trees = record { trees = trees; zones_kept = refl; slots_kept = refl; pages_kept = λ zone there. refl; held_kept = λ zone there. refl; off_chip_front = refl; mirror_front = refl; agree = λ k same. same }
+
+front_then : (zones same : ℕ) (a b c : List ℕ) → same ≡ zones → KeepsZones zones a b → KeepsZones same b c → KeepsZones zones a c
+front_then zones same a b c is first second = subst (λ (n : ℕ). KeepsZones n b c) is second ∙ first
 
 pub Keeps-then : (d : List ℕ → List ℕ) (x y z : CtlData) → Keeps d x y → Keeps d y z → Keeps d x z
 Keeps-then d x y z k l = record {
@@ -33,6 +43,10 @@ Keeps-then d x y z k l = record {
   zones_kept = l.zones_kept ∙ k.zones_kept;
   slots_kept = l.slots_kept ∙ k.slots_kept;
   pages_kept = λ zone there. l.pages_kept zone (omega (arith, k.zones_kept)) ∙ k.pages_kept zone there;
+  held_kept = λ zone there. l.held_kept zone (omega (arith, k.zones_kept)) ∙ k.held_kept zone there;
+  off_chip_front = front_then x.zones y.zones x.off_chip y.off_chip z.off_chip k.zones_kept k.off_chip_front l.off_chip_front;
+  mirror_front = front_then x.zones y.zones x.mirror y.mirror z.mirror k.zones_kept k.mirror_front l.mirror_front;
+  agree = StillAgree-then x.off_chip x.mirror y.off_chip y.mirror z.off_chip z.mirror k.agree l.agree;
 }
 
 module _ (d : List ℕ → List ℕ) (law : (m : List ℕ) → length (d m) ≡ 32) where
@@ -63,6 +77,10 @@ module _ (d : List ℕ → List ℕ) (law : (m : List ℕ) → length (d m) ≡ 
         zones_kept = refl;
         slots_kept = refl;
         pages_kept = λ z h. refl;
+        held_kept = λ z h. refl;
+        off_chip_front = refl;
+        mirror_front = refl;
+        agree = λ k same. same;
       }
 
   -- ---- a zone is evicted
@@ -175,4 +193,9 @@ module _ (d : List ℕ → List ℕ) (law : (m : List ℕ) → length (d m) ≡ 
       zones_kept = refl;
       slots_kept = refl;
       pages_kept = on_mirror.pages;
+      held_kept = on_off_chip.pages;
+      off_chip_front = on_off_chip.front;
+      mirror_front = on_mirror.front;
+      agree = with_places-agree x.zones (at_place (RootNode 1 (s.zone / 8)) node ∷ at_place (RootNode 2 0) top ∷ []) x.off_chip x.mirror
+          ((small, new_node_size), ((omega arith, new_top_size), tt)) trees.sizes.off_chip_size trees.sizes.mirror_size;
     }

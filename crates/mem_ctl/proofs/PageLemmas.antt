@@ -55,14 +55,14 @@ module _ (memory : List ℕ) (zones page at : ℕ) (bytes : List ℕ) (sized : l
   abbrev after : List ℕ
   after = with_bytes memory (4096 * page + at) bytes
 
-  other_page : (q : ℕ) → q ≢ page → page_bytes after q ≡ page_bytes memory q
+  pub other_page : (q : ℕ) → q ≢ page → page_bytes after q ≡ page_bytes memory q
   other_page q other =
       ⊎_elim
       (λ (before : q < page). bytes_at-with_bytes_before memory (4096 * page + at) bytes (omega arith) (4096 * q) 4096 (omega arith))
       (λ (past : page ≤ q). bytes_at-with_bytes_after memory (4096 * page + at) bytes (omega arith) (4096 * q) 4096 (omega arith))
       (cases_lt q page)
 
-  own_page : page_bytes after page ≡ with_bytes (page_bytes memory page) at bytes
+  pub own_page : page_bytes after page ≡ with_bytes (page_bytes memory page) at bytes
   own_page = bytes_at-with_bytes_inside memory (4096 * page) 4096 at bytes (omega arith) inside
 
   pub pages-own_zone : zone_pages after (page / 64) ≡ set (zone_pages memory (page / 64)) (page % 64) (with_bytes (page_bytes memory page) at bytes)

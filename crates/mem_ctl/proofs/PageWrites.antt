@@ -1,5 +1,5 @@
 -- A page is replaced: the zone's tree is that over its pages with the new one.
-use Rattle.std.proofs.Common.{◌≡◌, ℕ, ◌+◌, ◌-◌, ◌*◌, ◌/◌, ◌%◌, ◌<◌, ◌≤◌, ◌==◌, true, false, List, [], ◌∷◌, ◌++◌, length, drop, set, min, max, ⊎_elim, refl, subst, sym, ap, ◌∙◌, arith, length-drop}
+use Rattle.std.proofs.Common.{◌≡◌, ℕ, ◌+◌, ◌-◌, ◌*◌, ◌/◌, ◌%◌, ◌<◌, ◌≤◌, ◌==◌, cond, true, false, List, [], ◌∷◌, ◌++◌, length, drop, set, min, max, ⊎_elim, refl, subst, sym, ap, ◌∙◌, arith, length-drop}
 use Rattle.std.specs.Prelude.{All}
 use Rattle.std.specs.List.{concat}
 use Rattle.std.proofs.lemmas.Bool.{cases_Bool, eqb-false, eqb-true, false≢true, le-ltb, ne_eqb}
@@ -22,9 +22,12 @@ use Rattle.mem_tree.specs.Trees.{nth, zone_bytes}
 use Rattle.mem_tree.proofs.DigestSteps.{digests_of_length, length-digests}
 use Rattle.mem_tree.proofs.PageChanges.{by_level, page_changes}
 use Rattle.mem_tree.proofs.TreeNodes.{length-lower_nodes, page_level1, pieces-digests}
+use Rattle.mem_ctl.specs.Calls.{with_page}
 use Rattle.mem_ctl.specs.TreesHold.{NodesHold}
 use Rattle.mem_ctl.specs.Writes.{with_places, zone_pages}
+use Rattle.mem_ctl.specs.WrittenPages.{ChangesPage}
 use Rattle.mem_ctl.proofs.PageLemmas.{pages-other_zone, pages-own_zone}
+use Rattle.mem_ctl.proofs.PageParts.{one_page_written}
 use Rattle.mem_ctl.proofs.RenewedLemmas.{IsBehind, IsNode, pages-behind, renewed-behind, renewed-fit, renewed-leaves}
 use Rattle.mem_ctl.proofs.RootLemmas.{length-place, zone_pages-before}
 use Rattle.mem_ctl.proofs.WordWrites.{other_zone}
@@ -46,8 +49,16 @@ module _ (d : List ℕ → List ℕ) (law : (m : List ℕ) → length (d m) ≡ 
       ap (λ (xs : List ℕ). piece 256 k xs) (sym (page_level1 d law bytes)) ∙ sym (get_or-pieces 256 8 (concat digests) k [] below)
       ∙ ap (λ (ps : List (List ℕ)). nth ps k) (pieces-digests digests (digests_of_length d law (blocks bytes)))
 
--- all of a page written
-whole_page : (old bytes : List ℕ) → length old ≡ length bytes → with_bytes old 0 bytes ≡ bytes
+-- as many bytes as before
+pub length-with_page : (d : List ℕ → List ℕ) → ((m : List ℕ) → length (d m) ≡ 32) → (zones page : ℕ) (bytes memory : List ℕ) → page < 64 * zones → length bytes ≡ 4096 → length memory ≡ memory_size zones
+    → length (with_page d zones page bytes memory) ≡ memory_size zones
+length-with_page d law zones page bytes memory there size sized =
+    let first : ℕ = place_start zones (Node 1 (page / 64) (8 * (page % 64))) - 0x80000000 in
+    let one = length-with_bytes memory (4096 * page) bytes (omega arith) ∙ sized in
+    length-with_bytes _ first (concat (lower_nodes (block_digests d bytes))) (omega (arith, one, length-level1 d law bytes)) ∙ one
+
+-- all of a list written
+pub whole_page : (old bytes : List ℕ) → length old ≡ length bytes → with_bytes old 0 bytes ≡ bytes
 whole_page old bytes same =
     let end : 0 + length bytes ≡ length bytes = omega arith in
     ap (λ (k : ℕ). bytes ++ drop k old) end ∙ ap (λ (r : List ℕ). bytes ++ r) (drop_all (length bytes) old (omega arith)) ∙ append-nil bytes
@@ -188,18 +199,26 @@ module _ (d : List ℕ → List ℕ) (law : (m : List ℕ) → length (d m) ≡ 
 
   -- ---- pages
 
-  page_part : (zone : ℕ) → zone < zones → zone_pages new zone ≡ zone_pages (with_bytes mirror (4096 * page + 0) bytes) zone
-  page_part zone below =
+  page_part : (memory : List ℕ) → length memory ≡ memory_size zones → (zone : ℕ) → zone < zones
+      → zone_pages (with_places zones (with_page d zones page bytes memory) page_written') zone ≡ zone_pages (with_bytes memory (4096 * page + 0) bytes) zone
+  page_part memory sized zone below =
       let same : 4096 * page ≡ 4096 * page + 0 = omega arith in
-      pages-behind zones page_written' with_level1 page_fit
+      let one : length (with_bytes memory (4096 * page) bytes) ≡ memory_size zones = length-with_bytes memory (4096 * page) bytes (omega arith) ∙ sized in
+      pages-behind zones page_written' (with_page d zones page bytes memory) page_fit
       (renewed-behind d zones (zone_bytes d pages) (Node 2 z p) level2 (above_page page) (omega arith)
-      (All-cons (IsBehind zones) (Node 3 z (p / 8)) (Node 4 z 0 ∷ []) (omega arith) (All-cons (IsBehind zones) (Node 4 z 0) [] (omega arith) (All-nil (IsBehind zones))))) size2 zone below
-      ∙ zone_pages-before zones with_page' (first - 0x80000000) level1 (omega (arith, size1, length-level1 d law bytes)) (omega arith) zone below
-      ∙ ap (λ (k : ℕ). zone_pages (with_bytes mirror k bytes) zone) same
+      (All-cons (IsBehind zones) (Node 3 z (p / 8)) (Node 4 z 0 ∷ []) (omega arith) (All-cons (IsBehind zones) (Node 4 z 0) [] (omega arith) (All-nil (IsBehind zones))))) (length-with_page d law zones page bytes memory there page_size sized) zone below
+      ∙ zone_pages-before zones (with_bytes memory (4096 * page) bytes) (first - 0x80000000) level1 (omega (arith, one, length-level1 d law bytes)) (omega arith) zone below
+      ∙ ap (λ (k : ℕ). zone_pages (with_bytes memory k bytes) zone) same
+
+  pub put_pages : (memory : List ℕ) → length memory ≡ memory_size zones → ChangesPage zones page bytes memory (with_places zones (with_page d zones page bytes memory) page_written')
+  put_pages memory sized other below =
+      let page_length : length (page_bytes memory page) ≡ 4096 = length-take-le 4096 (drop (4096 * page) memory) (omega (arith, length-drop (4096 * page) memory)) in
+      one_page_written memory (with_places zones (with_page d zones page bytes memory) page_written') zones page 0 bytes sized there (omega arith) (page_part memory sized) other below
+      ∙ ap (λ (all : List ℕ). cond (other == page) all (page_bytes memory other)) (whole_page (page_bytes memory page) bytes (page_length ∙ sym page_size))
 
   own_pages : zone_pages new z ≡ replaced_pages
   own_pages =
-      page_part z zone_there ∙ pages-own_zone mirror zones page 0 bytes size there (omega arith)
+      page_part mirror size z zone_there ∙ pages-own_zone mirror zones page 0 bytes size there (omega arith)
       ∙ ap (set pages p) (whole_page (page_bytes mirror page) bytes (page_length ∙ sym page_size))
     where
       page_length : length (page_bytes mirror page) ≡ 4096
@@ -219,7 +238,7 @@ module _ (d : List ℕ → List ℕ) (law : (m : List ℕ) → length (d m) ≡ 
     root_nodes = λ level index exists.
         let P = λ (r : Place). same_place r (RootNode level index) ≡ false in
         leaves (RootNode level index) exists refl (All-cons P (Node 3 z (p / 8)) (Node 4 z 0 ∷ []) refl (All-cons P (Node 4 z 0) [] refl (All-nil P))) ∙ root-stays level index exists;
-    other_pages = λ other below apart. page_part other below ∙ pages-other_zone mirror zones page 0 bytes size there (omega arith) other apart;
+    other_pages = λ other below apart. page_part mirror size other below ∙ pages-other_zone mirror zones page 0 bytes size there (omega arith) other apart;
   }
 
   pub page_root_is : renewed_root d (zone_bytes d pages) (Node 2 z p) level2 (above_page page) ≡ zone_root d replaced_pages

@@ -101,7 +101,7 @@ module _ (d : List ℕ → List ℕ) (path : Path) (written : Place → List ℕ
 
 -- ---- a path whose first break is known
 
-found-passes : (t : Place → Bool) (ps : List Place) (q : Place) → find t ps ≡ Some q → t q ≡ true
+pub found-passes : (t : Place → Bool) (ps : List Place) (q : Place) → find t ps ≡ Some q → t q ≡ true
 found-passes t [] q h = cc
 found-passes t (p ∷ ps) q h = elim (cases_Bool (t p)) [
   | inl here ↦ let e : Some p ≡ Some q = sym (cond-true (t p) (Some p) (find t ps) here) ∙ h in let same : p ≡ q = cc in ap t (sym same) ∙ here

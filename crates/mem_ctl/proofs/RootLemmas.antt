@@ -7,7 +7,7 @@ use Rattle.pl_base.specs.Bytes.{bytes_at, with_bytes}
 use Rattle.pl_base.specs.declared.place.Place.{Place}
 use Rattle.pl_base.specs.declared.place.Place.TheVariants.{Node, RootNode}
 use Rattle.pl_digest.specs.Nodes.{entry, with_entry}
-use Rattle.mem_geom.specs.Layout.{Exists, memory_size, place_bytes, place_length, place_start}
+use Rattle.mem_geom.specs.Layout.{Exists, memory_size, place_bytes, place_length, place_start, table_start}
 use Rattle.mem_geom.specs.PathPlaces.{root_places}
 use Rattle.mem_geom.proofs.Parts.{bytes_at-with_bytes, bytes_at-with_bytes_after, bytes_at-with_bytes_before, length-with_bytes}
 use Rattle.mem_geom.proofs.Places.{stands_inside}
@@ -20,6 +20,7 @@ use Rattle.mem_tree.proofs.LinkedPaths.{IsLinked, linked_path-holds, paths_are_t
 use Rattle.mem_tree.proofs.PathPlaces.{same_place-refl}
 use Rattle.mem_ctl.specs.TreesHold.{RootHolds, TopHolds}
 use Rattle.mem_ctl.specs.Writes.{with_place, with_places, zone_pages}
+use Rattle.mem_ctl.specs.WrittenPages.{KeepsZones}
 use Rattle.mem_ctl.proofs.ZoneLemmas.{get_or-zone_pages, length-zone_pages}
 
 -- ---- the path
@@ -68,9 +69,6 @@ length-place zones memory place exists size =
     let at : ℕ = place_start zones place - 0x80000000 in
     length-take-le (place_length place) (drop at memory) (omega (arith, length-drop at memory, inside.0, inside.1))
 
-pub top_is_other : (k : ℕ) → RootNode 2 0 ≢ RootNode 1 k
-top_is_other k = λ same. false≢true (sym (ap (same_place (RootNode 2 0)) same))
-
 pub node_is_other : (k : ℕ) → RootNode 1 k ≢ RootNode 2 0
 node_is_other k = λ same. false≢true (ap (same_place (RootNode 2 0)) same)
 
@@ -98,6 +96,7 @@ pub record RootWritten (zones k : ℕ) (node top : List ℕ) (old new : List ℕ
   pub top_is : place_bytes zones new (RootNode 2 0) ≡ top
   pub others : (other : Place) → Exists zones other → other ≢ RootNode 1 k → other ≢ RootNode 2 0 → place_bytes zones new other ≡ place_bytes zones old other
   pub pages : (zone : ℕ) → zone < zones → zone_pages new zone ≡ zone_pages old zone
+  pub front : KeepsZones zones old new
 
 pub root_written : (zones k : ℕ) (node top memory : List ℕ) → k < 8 → length memory ≡ memory_size zones → length node ≡ 256 → length top ≡ 256
     → RootWritten zones k node top memory (with_places zones memory (at_place (RootNode 1 k) node ∷ at_place (RootNode 2 0) top ∷ []))
@@ -113,4 +112,7 @@ root_written zones k node top memory below size node_size top_size =
       pages = λ zone there.
           zone_pages-before zones middle (place_start zones (RootNode 2 0) - 0x80000000) top (omega (arith, first.length)) (omega arith) zone there
           ∙ zone_pages-before zones memory (place_start zones (RootNode 1 k) - 0x80000000) node (omega arith) (omega arith) zone there;
+      front =
+          bytes_at-with_bytes_before middle (place_start zones (RootNode 2 0) - 0x80000000) top (omega (arith, first.length)) 0 (table_start zones - 0x80000000) (omega arith)
+          ∙ bytes_at-with_bytes_before memory (place_start zones (RootNode 1 k) - 0x80000000) node (omega arith) 0 (table_start zones - 0x80000000) (omega arith);
     }

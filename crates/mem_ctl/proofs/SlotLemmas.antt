@@ -1,6 +1,6 @@
 -- Lists of slots: which zones are mounted, and their roots.
 use Rattle.std.proofs.Common.{◌≡◌, ℕ, ◌<◌, ◌==◌, ◌||◌, Bool, true, false, cond, List, [], ◌∷◌, ◌++◌, length, map, find, take, drop, get_or, Option, Some, is_some, refl, sym, ap, ◌∙◌, arith}
-use Rattle.std.specs.Prelude.{All, remove, zero, suc}
+use Rattle.std.specs.Prelude.{All, AllPairs, remove, zero, suc}
 use Rattle.std.specs.Option.{option_map, unwrap_or}
 use Rattle.std.proofs.lemmas.Bool.{false≢true, eq-eqb, eqb-true, or_parts, or_from}
 use Rattle.std.proofs.lemmas.List.{get_or-map, length-map, length_push}
@@ -8,8 +8,9 @@ use Rattle.std.proofs.lemmas.List.Edits.{length-remove}
 use Rattle.std.proofs.lemmas.List.Elements.{All-append, All-drop, All-head, All-map, All-push, All-tail, All-take}
 use Rattle.std.proofs.lemmas.List.Folds.{list_any-append}
 use Rattle.std.proofs.lemmas.List.Quantifiers.{all_pairs_push, all_pairs_remove}
-use Rattle.mem_slots.specs.Slots.{Slot, is_mounted, is_of, root_of, rooted_slot, used_slot}
-use Rattle.mem_ctl.specs.TreesHold.{AreOfTwoZones, SlotsFit}
+use Rattle.mem_slots.specs.declared.slot_use.SlotUse.{SlotUse}
+use Rattle.mem_slots.specs.Slots.{Slot, is_mounted, is_of, root_of, rooted_slot, slot, use_of, used_slot}
+use Rattle.mem_ctl.specs.TreesHold.{AreOfTwoZones, AreUsesOfTwoZones, SlotsFit}
 
 -- ---- a change of slots that keeps their zones
 
@@ -138,3 +139,16 @@ some_of false s rest = refl
 pub is_some-root_of : (mounted : List Slot) (zone : ℕ) → is_some (root_of mounted zone) ≡ is_mounted mounted zone
 is_some-root_of [] zone = refl
 is_some-root_of (s ∷ ss) zone = some_of (is_of zone s) s (find (is_of zone) ss) ∙ ap (λ (b : Bool). is_of zone s || b) (is_some-root_of ss zone)
+
+-- ---- uses, as the choice is shown them
+
+pub uses-apart : (mounted : List Slot) → AllPairs AreOfTwoZones mounted → AllPairs AreUsesOfTwoZones (map use_of mounted)
+uses-apart mounted apart i j e before below =
+    let there : j < length mounted = omega (arith, length-map mounted use_of) in
+    let here : i < length mounted = omega arith in
+    let s : Slot = slot 0 0 [] in
+    ap (λ (u : SlotUse). u.zone == (get_or (map use_of mounted) j e).zone) (get_or-map use_of mounted i s e here)
+    ∙ ap (λ (u : SlotUse). (get_or mounted i s).zone == u.zone) (get_or-map use_of mounted j s e there) ∙ apart i j s before there
+
+pub uses-there : (zones : ℕ) (mounted : List Slot) → All (λ (s : Slot). s.zone < zones) mounted → All (λ (u : SlotUse). u.zone < zones) (map use_of mounted)
+uses-there zones mounted there = All-map (λ (u : SlotUse). u.zone < zones) use_of mounted there

@@ -6,26 +6,27 @@ use Rattle.pl_base.specs.Width.{is_width}
 use Rattle.mem_tree.specs.Checks.{Fault, Collision, check_on, collides}
 use Rattle.mem_tree.specs.Paths.{Path, breaks}
 use Rattle.mem_tree.specs.Words.{IsPart}
-use Rattle.std.proofs.Common.{◌≡◌, ℕ, ◌+◌, ◌-◌, ◌*◌, ◌/◌, ◌%◌, ◌<◌, ◌≤◌, List, [], ◌∷◌, length, refl, subst, sym, ap, ◌∙◌, arith}
+use Rattle.std.proofs.Common.{◌≡◌, ℕ, ◌+◌, ◌-◌, ◌*◌, ◌/◌, ◌%◌, ◌<◌, ◌≤◌, ◌==◌, List, [], ◌∷◌, length, drop, refl, subst, sym, ap, ◌∙◌, arith, length-drop}
 use Rattle.std.specs.Prelude.{All, true}
 use Rattle.std.proofs.lemmas.List.Elements.{All-cons, All-nil}
-use Rattle.byteorder.specs.Endian.{little_number}
+use Rattle.byteorder.specs.Endian.{little_bytes, little_number}
+use Rattle.byteorder.specs.Numbers.{length-bytes_low_first}
 use Rattle.pl_base.specs.Bytes.{bytes_at, with_bytes}
 use Rattle.pl_base.specs.declared.place.Place.{Place}
 use Rattle.pl_base.specs.declared.place.Place.TheVariants.{Block, Node}
 use Rattle.pl_digest.specs.Nodes.{with_entry}
 use Rattle.pl_digest.specs.Trees.{piece, zone_root}
-use Rattle.mem_geom.specs.Layout.{place_bytes}
+use Rattle.mem_geom.specs.Layout.{memory_size, place_bytes}
 use Rattle.mem_geom.specs.PathPlaces.{word_places}
+use Rattle.mem_geom.proofs.PartPlaces.{parts_are_places}
 use Rattle.mem_geom.proofs.Parts.{bytes_at-bytes_at}
+use Rattle.std.proofs.lemmas.List.{length-take-le}
 use Rattle.mem_slots.specs.Slots.{is_mounted}
 use Rattle.mem_tree.specs.declared.new_path.NewPath.{NewPath}
 use Rattle.mem_tree.specs.Changes.{IsOfZone, PlaceBytes, above_block, at_place, renewed, renewed_root}
-use Rattle.mem_tree.specs.Checks.{Checked, Tells, check, Holds as AllHold}
-use Rattle.mem_tree.specs.Paths.{path_of}
+use Rattle.mem_tree.specs.Checks.{Checked, check, Holds as AllHold}
 use Rattle.mem_tree.specs.Trees.{nth, zone_bytes}
 use Rattle.mem_tree.specs.Words.{part_bytes, parts_path, word_path}
-use Rattle.mem_tree.proofs.Differences.{checks_tell}
 use Rattle.mem_tree.proofs.WordPaths.{parts_answer_alike}
 use Rattle.mem_ctl.specs.Calls.{slot_root, with_part, with_root, zone_check}
 use Rattle.mem_ctl.specs.Data.{CtlData}
@@ -34,13 +35,13 @@ use Rattle.mem_ctl.specs.TreesHold.{TreesHold}
 use Rattle.mem_ctl.specs.Words.{IsNewPath, stored}
 use Rattle.mem_ctl.specs.Writes.{with_places, word_at, zone_pages}
 use Rattle.mem_ctl.proofs.RenewedLemmas.{renewed-alike, renewed_root-alike}
-use Rattle.mem_ctl.proofs.SlotLemmas.{root_found}
-use Rattle.mem_ctl.proofs.WordWrites.{new_pages, word_fit, word_root, word_update, word_written}
+use Rattle.mem_ctl.proofs.WordWrites.{new_pages, word_fit, word_pages, word_root, word_update, word_written}
 use Rattle.mem_ctl.proofs.WriteLemmas.{AllFit, length-with_places}
-use Rattle.mem_ctl.proofs.ZoneLemmas.{mirror_is, word_path-written}
-use Rattle.mem_ctl.proofs.ZoneUpdates.{ZoneUpdate, updated-hold}
-use Rattle.mem_ctl.proofs.PageParts.{page_after, part_pages}
-use Rattle.mem_ctl.specs.WrittenPages.{PageBecomes}
+use Rattle.mem_ctl.proofs.ZoneLemmas.{mirror_is}
+use Rattle.mem_ctl.proofs.ZoneUpdates.{updated-hold}
+use Rattle.mem_ctl.proofs.Agreement.{StillAgree, with_places-agree}
+use Rattle.mem_ctl.proofs.PageLemmas.{with_bytes-nested}
+use Rattle.mem_ctl.specs.WrittenPages.{ChangesPage}
 use Rattle.mem_geom.specs.Parts.{page_bytes}
 
 -- a word is a part of its block
@@ -85,22 +86,17 @@ module _ (d : List ℕ → List ℕ) where
       ∙ ap (λ (q : List ℕ). f path.block path.level1 path.level2 q l4 (d l4)) s3 ∙ ap (λ (q : List ℕ). f path.block path.level1 path.level2 path.level3 q (d l4)) s4
       ∙ ap (f path.block path.level1 path.level2 path.level3 path.level4) s5
 
+  -- a write leaves the numbers of zones and of slots
+  pub with_part-sizes : (x : CtlData) (old : Place → List ℕ) (page b at : ℕ) (part : List ℕ) → ((with_part d old page b at part x).zones ≡ x.zones) × ((with_part d old page b at part x).slots ≡ x.slots)
+  unfolding with_part
+  with_part-sizes x old page b at part = (refl, refl)
+
   -- the parts of the path that is taken from memory stand for the memory's bytes
   pub with_part-parts : (x : CtlData) (old : Place → List ℕ) (root : List ℕ) (page b at : ℕ) (part : List ℕ) → with_part d old page b at part x ≡ with_part d (part_bytes (word_path root old page b)) page b at part x
   unfolding with_part
   with_part-parts x old root page b at part = refl
 
 module _ (d : List ℕ → List ℕ) (law : (m : List ℕ) → length (d m) ≡ 32) (x : CtlData) (trees : TreesHold d x) (page b : ℕ) (there : page < 64 * x.zones) (below : b < 64) (mounted : is_mounted x.mounted (page / 64) ≡ true) where
-  slot_root_is : slot_root x (page / 64) ≡ zone_root d (zone_pages x.mirror (page / 64))
-  slot_root_is = root_found (λ (z : ℕ). zone_root d (zone_pages x.mirror z)) x.mounted (page / 64) trees.slots_hold mounted
-
-  -- what the check of a word's path tells
-  pub word_tells : (c : Checked) → zone_check d x (page / 64) (word_places page b) ≡ c → Tells d (path_of (slot_root x (page / 64)) (word_places page b) (taken x)) (written x) c
-  word_tells c is =
-      subst (Tells d (path_of (slot_root x (page / 64)) (word_places page b) (taken x)) (written x)) is
-      (checks_tell d (path_of (slot_root x (page / 64)) (word_places page b) (taken x)) (written x)
-      (word_path-written d law x.zones x.mirror trees.sizes.mirror_size trees.nodes page there (slot_root x (page / 64)) slot_root_is x.off_chip b below))
-
   -- a part is written over bytes that are as they were written
   module _ (old : Place → List ℕ) (same : All (λ (p : Place). old p ≡ written x p) (word_places page b)) (at : ℕ) (part : List ℕ) (inside : at + length part ≤ 64) where
     abbrev pages : List (List ℕ)
@@ -153,23 +149,54 @@ module _ (d : List ℕ → List ℕ) (law : (m : List ℕ) → length (d m) ≡ 
         (length-with_places x.zones wrote x.off_chip fit trees.sizes.off_chip_size)
         (word_update d law x.zones x.mirror trees.sizes.mirror_size trees.nodes page b at part there below inside) root_is)
 
-    -- the page has the part, and no other changes
-    pub with_part-pages : PageBecomes page (with_bytes (page_bytes x.mirror page) (64 * b + at) part) x (with_part d old page b at part x)
+    abbrev wrote_first : List PlaceBytes
+    wrote_first = renewed d old (Block page b) (with_bytes (old (Block page b)) at part) (above_block page b)
+
+    -- whatever memory the places are written into: the page has the block, and no other changes
+    pub with_part-block : (memory : List ℕ) → length memory ≡ memory_size x.zones
+        → ChangesPage x.zones page (with_bytes (page_bytes memory page) (64 * b) (with_bytes (written x (Block page b)) at part)) memory (with_places x.zones memory wrote_first)
+    with_part-block memory sized other in_zones =
+        ap (λ (ws : List PlaceBytes). page_bytes (with_places x.zones memory ws) other) wrote_is
+        ∙ word_pages d law x.zones x.mirror trees.sizes.mirror_size trees.nodes page b at part there below inside memory sized other in_zones
+        ∙ ap (λ (xs : List ℕ). cond (other == page) (with_bytes (page_bytes memory page) (64 * b) (with_bytes xs at part)) (page_bytes memory other)) (sym (in_tree (Block page b) (refl, below)))
+
+    -- and where the block was as written, it has the part
+    pub with_part-part : (memory : List ℕ) → length memory ≡ memory_size x.zones → place_bytes x.zones memory (Block page b) ≡ written x (Block page b)
+        → ChangesPage x.zones page (with_bytes (page_bytes memory page) (64 * b + at) part) memory (with_places x.zones memory wrote_first)
+    with_part-part memory sized block other in_zones =
+        let all : List ℕ = page_bytes memory page in
+        let size : length all ≡ 4096 = length-take-le 4096 (drop (4096 * page) memory) (omega (arith, length-drop (4096 * page) memory)) in
+        let is : with_bytes all (64 * b) (with_bytes (written x (Block page b)) at part) ≡ with_bytes all (64 * b + at) part =
+        ap (λ (xs : List ℕ). with_bytes all (64 * b) (with_bytes xs at part)) (sym block ∙ parts_are_places.blocks x.zones page b memory below)
+        ∙ with_bytes-nested all (64 * b) 64 at part (omega arith) inside in
+        with_part-block memory sized other in_zones ∙ ap (λ (xs : List ℕ). cond (other == page) xs (page_bytes memory other)) is
+
+    pub with_part-pages : ChangesPage x.zones page (with_bytes (page_bytes x.mirror page) (64 * b + at) part) x.mirror (with_part d old page b at part x).mirror
     unfolding with_part
-    with_part-pages =
-        let ws : List PlaceBytes = renewed d old (Block page b) (with_bytes (old (Block page b)) at part) (above_block page b) in
-        let changed = λ (l : List PlaceBytes) (pages' : List (List ℕ)). ZoneUpdate d x.zones (page / 64) x.mirror (with_places x.zones x.mirror l) pages' in
-        let update : changed ws (new_pages d law x.zones x.mirror trees.sizes.mirror_size trees.nodes page b at part there below inside) =
-        subst (λ (l : List PlaceBytes). changed l (new_pages d law x.zones x.mirror trees.sizes.mirror_size trees.nodes page b at part there below inside)) (sym wrote_is)
-        (word_update d law x.zones x.mirror trees.sizes.mirror_size trees.nodes page b at part there below inside) in
-        λ other in_zones.
-        page_after d x.zones page x.mirror (with_places x.zones x.mirror ws) (with_bytes (page_bytes x.mirror page) (64 * b + at) part)
-        (subst (changed ws) (part_pages x.mirror page (64 * b + at) part) update) other in_zones
+    with_part-pages = with_part-part x.mirror trees.sizes.mirror_size refl
+
+    -- off chip too; and bytes that were as written still are
+    pub with_part-held : ChangesPage x.zones page (with_bytes (page_bytes x.off_chip page) (64 * b) (with_bytes (written x (Block page b)) at part)) x.off_chip (with_part d old page b at part x).off_chip
+    unfolding with_part
+    with_part-held = with_part-block x.off_chip trees.sizes.off_chip_size
+
+    pub with_part-held_part : taken x (Block page b) ≡ written x (Block page b) → ChangesPage x.zones page (with_bytes (page_bytes x.off_chip page) (64 * b + at) part) x.off_chip (with_part d old page b at part x).off_chip
+    unfolding with_part
+    with_part-held_part block = with_part-part x.off_chip trees.sizes.off_chip_size block
+
+    pub with_part-agree : StillAgree x.off_chip x.mirror (with_part d old page b at part x).off_chip (with_part d old page b at part x).mirror
+    unfolding with_part
+    with_part-agree =
+        subst (λ (ws : List PlaceBytes). StillAgree x.off_chip x.mirror (with_places x.zones x.off_chip ws) (with_places x.zones x.mirror ws)) (sym wrote_is)
+        (with_places-agree x.zones wrote x.off_chip x.mirror fit trees.sizes.off_chip_size trees.sizes.mirror_size)
 
 -- ---- parts, and paths whose check holds
 
 pub part_of : (width offset : ℕ) → IsTrue (is_width width) → offset % width ≡ 0 → IsPart (offset % 64) width
 part_of width offset is aligned = record { is_width = is; is_aligned = grind (arith, nat_tests); is_inside = grind (arith, nat_tests) }
+
+pub part_fits : (width offset word : ℕ) → IsTrue (is_width width) → offset % width ≡ 0 → offset % 64 + length (little_bytes width word) ≤ 64
+part_fits width offset word wide aligned = omega (arith, length-bytes_low_first 0 width word, (part_of width offset wide aligned).is_inside)
 
 not_broken : (b : Bool) (p : Place) (rest : Checked) → cond b (Fault p) rest ≡ AllHold → (b ≡ false) × (rest ≡ AllHold)
 not_broken true p rest h = cc

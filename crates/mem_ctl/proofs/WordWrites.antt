@@ -10,6 +10,7 @@ use Rattle.pl_base.specs.declared.place.Place.TheVariants.{Block, Node, RootNode
 use Rattle.pl_digest.specs.Nodes.{with_entry}
 use Rattle.pl_digest.specs.Trees.{piece, zone_root}
 use Rattle.mem_geom.specs.Layout.{Exists, memory_size, nodes_of_level, place_bytes}
+use Rattle.mem_geom.specs.Parts.{page_bytes}
 use Rattle.mem_geom.specs.Tree.{entry_number}
 use Rattle.mem_geom.proofs.Parts.{length-with_bytes}
 use Rattle.mem_tree.specs.Changes.{BlockChanges, PlaceBytes, above_block, at_place, bytes_after, renewed, renewed_root, with_page_part}
@@ -18,8 +19,10 @@ use Rattle.mem_tree.specs.Trees.{nth, zone_bytes}
 use Rattle.mem_tree.proofs.BlockChanges.{block_changes}
 use Rattle.mem_ctl.specs.TreesHold.{NodesHold}
 use Rattle.mem_ctl.specs.Writes.{with_place, with_places, zone_pages}
+use Rattle.mem_ctl.specs.WrittenPages.{ChangesPage}
 use Rattle.mem_ctl.proofs.PageLemmas.{pages-other_zone, pages-own_zone, with_bytes-nested}
 use Rattle.mem_ctl.proofs.RenewedLemmas.{IsBehind, IsNode, pages-behind, renewed-behind, renewed-fit, renewed-leaves}
+use Rattle.mem_ctl.proofs.PageParts.{one_page_written}
 use Rattle.mem_ctl.proofs.RootLemmas.{length-place}
 use Rattle.mem_ctl.proofs.WriteLemmas.{AllFit, length-with_place, length-with_places, with_places-at}
 use Rattle.mem_ctl.proofs.ZoneLemmas.{mirror_is, page_is, zone_pages-IsZone}
@@ -45,7 +48,7 @@ module _ (d : List ℕ → List ℕ) (law : (m : List ℕ) → length (d m) ≡ 
   abbrev pub pages : List (List ℕ)
   pages = zone_pages mirror (page / 64)
 
-  abbrev block : List ℕ
+  abbrev pub block : List ℕ
   block = with_bytes (piece 64 b (nth pages (page % 64))) at part
 
   -- what is written
@@ -107,19 +110,20 @@ module _ (d : List ℕ → List ℕ) (law : (m : List ℕ) → length (d m) ≡ 
   abbrev new : List ℕ
   new = with_places zones mirror word_written
 
-  with_block_size : length (with_place zones mirror (at_place (Block page b) block)) ≡ memory_size zones
-  with_block_size = length-with_place zones (at_place (Block page b) block) mirror (there, in_page) block_size size
-
-  pages_after : (zone : ℕ) → zone < zones → zone_pages new zone ≡ zone_pages (with_bytes mirror (4096 * page + 64 * b) block) zone
-  pages_after zone below =
+  -- the zones' pages change by the block alone, whatever memory it is written into
+  pages_after : (memory : List ℕ) → length memory ≡ memory_size zones → (zone : ℕ) → zone < zones → zone_pages (with_places zones memory word_written) zone ≡ zone_pages (with_bytes memory (4096 * page + 64 * b) block) zone
+  pages_after memory sized zone below =
       let from : 0x80000000 + 4096 * page + 64 * b - 0x80000000 ≡ 4096 * page + 64 * b = omega arith in
-      pages-behind zones (renewed d (zone_bytes d pages) n1 first_node over) (with_place zones mirror (at_place (Block page b) block)) word_fit.1
-      (renewed-behind d zones (zone_bytes d pages) n1 first_node over (omega arith) over_behind) with_block_size zone below
-      ∙ ap (λ (k : ℕ). zone_pages (with_bytes mirror k block) zone) from
+      pages-behind zones (renewed d (zone_bytes d pages) n1 first_node over) (with_place zones memory (at_place (Block page b) block)) word_fit.1
+      (renewed-behind d zones (zone_bytes d pages) n1 first_node over (omega arith) over_behind) (length-with_place zones (at_place (Block page b) block) memory (there, in_page) block_size sized) zone below
+      ∙ ap (λ (k : ℕ). zone_pages (with_bytes memory k block) zone) from
+
+  pub word_pages : (memory : List ℕ) → length memory ≡ memory_size zones → ChangesPage zones page (with_bytes (page_bytes memory page) (64 * b) block) memory (with_places zones memory word_written)
+  word_pages memory sized = one_page_written memory (with_places zones memory word_written) zones page (64 * b) block sized there (omega (arith, block_size)) (pages_after memory sized)
 
   own_pages : zone_pages new z ≡ new_pages
   own_pages =
-      pages_after z zone_there ∙ pages-own_zone mirror zones page (64 * b) block size there (omega (arith, block_size))
+      pages_after mirror size z zone_there ∙ pages-own_zone mirror zones page (64 * b) block size there (omega (arith, block_size))
       ∙ ap (λ (bytes : List ℕ). set pages p (with_bytes bytes (64 * b) block)) (sym (page_is mirror page))
       ∙ ap (set pages p) (with_bytes-nested (nth pages p) (64 * b) 64 at part (omega (arith, page_size)) in_block)
 
@@ -149,7 +153,7 @@ module _ (d : List ℕ → List ℕ) (law : (m : List ℕ) → length (d m) ≡ 
     own_pages = own_pages;
     other_nodes = λ level other index exists apart. leaves (Node level other index) exists refl (nodes_apart level other index apart);
     root_nodes = λ level index exists. leaves (RootNode level index) exists refl (roots_apart level index);
-    other_pages = λ other below apart. pages_after other below ∙ pages-other_zone mirror zones page (64 * b) block size there (omega (arith, block_size)) other apart;
+    other_pages = λ other below apart. pages_after mirror size other below ∙ pages-other_zone mirror zones page (64 * b) block size there (omega (arith, block_size)) other apart;
   }
 
   pub word_root : renewed_root d (zone_bytes d pages) (Block page b) block (above_block page b) ≡ zone_root d new_pages

@@ -68,7 +68,7 @@ over_page-of_zone page rest all =
     let n2 : Place = Node 2 (page / 64) (page % 64) in
     All-cons P (Node 4 (page / 64) 0) (n3 ∷ n2 ∷ rest) (refl, omega arith) (All-cons P n3 (n2 ∷ rest) (refl, omega arith) (All-cons P n2 rest (refl, omega arith) all))
 
-word-of_zone : (page b : ℕ) → b < 64 → All (IsOfZone (page / 64)) (word_places page b)
+pub word-of_zone : (page b : ℕ) → b < 64 → All (IsOfZone (page / 64)) (word_places page b)
 word-of_zone page b below =
     let P : Place → Type 0 = IsOfZone (page / 64) in
     let n1 : Place = Node 1 (page / 64) (8 * (page % 64) + b / 8) in

@@ -20,9 +20,12 @@ op_offset_of (op.Read offset) = offset
 op_offset_of (op.Write offset width value) = offset
 
 -- the part is one of the block's page, and lies in the block
+abbrev pub IsWordOpIn : ℕ → WordOp → Type 0
+IsWordOpIn block (Read offset) = (offset < 4096) × (offset / 64 ≡ block)
+IsWordOpIn block (Write offset width word) = (offset < 4096) × (offset / 64 ≡ block) × IsTrue (is_width width) × (offset % width ≡ 0)
+
 abbrev pub IsOpIn : ℕ → Op → Type 0
-IsOpIn block (op.Read offset) = (offset < 4096) × (offset / 64 ≡ block)
-IsOpIn block (op.Write offset width value) = (offset < 4096) × (offset / 64 ≡ block) × IsTrue (is_width width) × (offset % width ≡ 0)
+IsOpIn block op = IsWordOpIn block (op_of op)
 
 -- what it answers
 abbrev pub told_outcome : Result ℕ Told → Outcome ℕ

@@ -4,6 +4,7 @@ use Rattle.pl_base.specs.declared.place.Place.TheVariants.{Node, RootNode}
 use Rattle.pl_digest.specs.Nodes.{entry}
 use Rattle.pl_digest.specs.Trees.{zone_root}
 use Rattle.mem_geom.specs.Layout.{Exists, memory_size, place_bytes}
+use Rattle.mem_slots.specs.declared.slot_use.SlotUse.{SlotUse}
 use Rattle.mem_slots.specs.Slots.{Slot, is_mounted}
 use Rattle.mem_tree.specs.Trees.{zone_bytes}
 use Rattle.mem_ctl.specs.Data.{CtlData}
@@ -22,6 +23,10 @@ pub record HasSizes (zones : ℕ) (off_chip mirror : List ℕ) : Type 0 where
 -- two slots are of two zones
 abbrev pub AreOfTwoZones : Slot → Slot → Type 0
 AreOfTwoZones s t = (s.zone == t.zone) ≡ false
+
+-- so are two uses
+abbrev pub AreUsesOfTwoZones : SlotUse → SlotUse → Type 0
+AreUsesOfTwoZones s t = (s.zone == t.zone) ≡ false
 
 -- at most so many zones are mounted, each is there, none twice
 pub record SlotsFit (zones slots : ℕ) (mounted : List Slot) : Type 0 where

@@ -7,12 +7,13 @@ ghost use Rattle.mem_geom.specs.PathPlaces.{page_places, replaced_places};
 ghost use Rattle.mem_slots.specs.Choices.{NamesPosition};
 ghost use Rattle.mem_slots.specs.Slots.{is_mounted};
 ghost use Rattle.mem_tree.specs.Checks.{IsTopDown};
+ghost use Rattle.mem_ctl.specs.Access.{AllAsWritten, BothChange, BothStay, Leaves};
 ghost use Rattle.mem_ctl.specs.Calls.{get_page_of, put_page_of, with_page_at, zone_check};
+ghost use Rattle.mem_ctl.specs.Causes.{IsCause};
 ghost use Rattle.mem_ctl.specs.Results.{IsCall, checked_of, outcome_of};
 ghost use Rattle.mem_ctl.specs.Opened.{IsOpenedZone, IsRefused};
 ghost use Rattle.mem_ctl.specs.Pages.{got_outcome, page_place, page_written};
 ghost use Rattle.mem_ctl.specs.TreesHold.{IsKept};
-ghost use Rattle.mem_ctl.specs.WrittenPages.{PageBecomes, PagesStay};
 
 use crate::broken::Broken;
 use crate::check::{check_places, read_place, write_place};
@@ -30,8 +31,14 @@ impl<D: Digester, F: Fn(&[SlotUse]) -> usize> Ctl<D, F> {
         requires page { page < 64 * self.old.0.zones }
         requires choice { NamesPosition F.Fn self.old.1 }
         ensures call { IsCall (FnReturnsAt F.Fn self.old.1) (get_page_of D.digest_of page) self.old.0 (got_outcome into.new result) self.new.0 }
+
+        // A page that it gives is the one that was written, and stands off chip too.
         ensures page { OnOk result (into.new ≡ page_bytes self.old.0.mirror page) }
-        ensures kept { PagesStay self.old.0 self.new.0 }
+        ensures held { OnOk result (into.new ≡ page_bytes self.old.0.off_chip page) }
+        ensures whole { OnOk result (AllAsWritten self.old.0 (page_places page)) }
+        ensures stay { BothStay self.old.0 self.new.0 }
+        ensures leaves { Leaves D.digest_of self.old.0 self.new.0 }
+        ensures cause { IfErr result (IsCause D.digest_of (page_places page) self.new.0) }
         ensures err { OnErr result (into.new ≡ into.old) }
         ensures choice { self.new.1 ≡ self.old.1 }
     {
@@ -48,8 +55,11 @@ impl<D: Digester, F: Fn(&[SlotUse]) -> usize> Ctl<D, F> {
         requires page { page < 64 * self.old.0.zones }
         requires choice { NamesPosition F.Fn self.old.1 }
         ensures call { IsCall (FnReturnsAt F.Fn self.old.1) (put_page_of D.digest_of page bytes.now) self.old.0 (outcome_of result) self.new.0 }
-        ensures pages { OnOk result (PageBecomes page bytes.now self.old.0 self.new.0) }
-        ensures kept { OnErr result (PagesStay self.old.0 self.new.0) }
+        ensures pages { OnOk result (BothChange page (λ _. bytes.now) self.old.0 self.new.0) }
+        ensures whole { OnOk result (AllAsWritten self.old.0 (replaced_places page)) }
+        ensures stay { OnErr result (BothStay self.old.0 self.new.0) }
+        ensures leaves { Leaves D.digest_of self.old.0 self.new.0 }
+        ensures cause { IfErr result (IsCause D.digest_of (replaced_places page) self.new.0) }
         ensures choice { self.new.1 ≡ self.old.1 }
     {
         let _zones = self.zones;

@@ -1,17 +1,19 @@
 // Paths that were sealed outside of the controller.
-ghost use Rattle.std.specs.Prelude.{◌≡◌, ◌<◌, ◌*◌, ◌/◌, ◌%◌, ◌&&◌, true, None, not, IfOk, OnErr, OnOk};
+ghost use Rattle.std.specs.Prelude.{◌≡◌, ◌<◌, ◌*◌, ◌/◌, ◌%◌, ◌&&◌, true, None, not, IfErr, IfOk, OnErr, OnOk};
 ghost use Rattle.std.specs.Fn.{FnReturnsAt};
 ghost use Rattle.mem_slots.specs.Slots.{is_mounted, root_of};
 ghost use Rattle.mem_tree.specs.Paths.{first_break};
 ghost use Rattle.mem_tree.specs.Words.{taken_path, verdict_of};
+ghost use Rattle.mem_ctl.specs.Access.{Leaves};
 ghost use Rattle.mem_ctl.specs.Calls.{root_stands, tell_of, told};
+ghost use Rattle.mem_ctl.specs.Causes.{IsCauseOfTelling};
+ghost use Rattle.mem_ctl.specs.Laws.{Obeyed};
 ghost use Rattle.mem_ctl.specs.Mounting.{used};
 ghost use Rattle.mem_ctl.specs.Opened.{word_of_taken};
 ghost use Rattle.mem_ctl.specs.Results.{IsCall};
 ghost use Rattle.mem_ctl.specs.Tellings.{IsOpIn, is_whole, op_of, op_offset_of, told_outcome};
 ghost use Rattle.mem_ctl.specs.TreesHold.{IsKept};
 ghost use Rattle.mem_ctl.specs.Writes.{word_at};
-ghost use Rattle.mem_ctl.specs.WrittenPages.{ToldPages};
 
 use crate::broken::Broken;
 use crate::ctl::Ctl;
@@ -49,8 +51,10 @@ impl<D: Digester, F: Fn(&[SlotUse]) -> usize> Ctl<D, F> {
         requires op { IsOpIn sealed.now.block_no op }
         ensures call { IsCall (FnReturnsAt F.Fn self.old.1) (tell_of D.digest_of (word_of_taken sealed.now) (op_of op)) self.old.0 (told_outcome result) self.new.0 }
         ensures word { IfOk result (λ word. word ≡ word_at self.old.0.mirror sealed.now.page (op_offset_of op / 8 * 8)) }
-        ensures pages { OnOk result (ToldPages op sealed.now.page self.old.0 self.new.0) }
+        ensures pages { OnOk result (Obeyed (word_of_taken sealed.now) (op_of op) self.old.0 self.new.0) }
+        ensures leaves { Leaves D.digest_of self.old.0 self.new.0 }
         ensures refused { OnErr result (self.new.0 ≡ self.old.0) }
+        ensures cause { IfErr result (IsCauseOfTelling D.digest_of (word_of_taken sealed.now) self.old.0) }
         ensures choice { self.new.1 ≡ self.old.1 }
     {
         let _zones = self.zones;

@@ -1,23 +1,24 @@
 // Words through the trees.
-ghost use Rattle.std.specs.Prelude.{◌≡◌, ◌≤◌, ◌<◌, ◌*◌, ◌/◌, ◌%◌, ◌+◌, true, length, IfOk, IfErr, OnErr, OnOk, IsTrue};
+ghost use Rattle.std.specs.Prelude.{◌≡◌, ◌≤◌, ◌<◌, ◌*◌, ◌/◌, ◌%◌, ◌+◌, true, [], length, IfOk, IfErr, OnErr, OnOk, IsTrue};
 ghost use Rattle.std.specs.Fn.{FnReturnsAt};
 ghost use Rattle.byteorder.specs.Endian.{little_bytes, little_number};
 ghost use Rattle.pl_base.specs.Bytes.{bytes_at, with_bytes};
 ghost use Rattle.pl_base.specs.Width.{is_width};
 ghost use Rattle.mem_geom.specs.Layout.{memory_size};
-ghost use Rattle.mem_geom.specs.Parts.{page_bytes};
 ghost use Rattle.mem_geom.specs.PathPlaces.{word_places};
 ghost use Rattle.mem_slots.specs.Choices.{NamesPosition};
 ghost use Rattle.mem_slots.specs.Slots.{is_mounted};
 ghost use Rattle.mem_tree.specs.Words.{parts_of, word_path};
+ghost use Rattle.mem_ctl.specs.Access.{AllAsWritten, BothChange, BothStay, Leaves};
 ghost use Rattle.mem_ctl.specs.Calls.{ask_of, read_word_of, slot_root, write_part_of};
+ghost use Rattle.mem_ctl.specs.Causes.{IsCause};
+ghost use Rattle.mem_ctl.specs.Laws.{PathIsTaken};
 ghost use Rattle.mem_ctl.specs.Mounting.{taken};
-ghost use Rattle.mem_ctl.specs.Opened.{IsOpened, IsRefused, asked_outcome};
+ghost use Rattle.mem_ctl.specs.Opened.{IsOpened, IsRefused, asked_outcome, word_of_taken};
 ghost use Rattle.mem_ctl.specs.Results.{IsCall, outcome_of};
 ghost use Rattle.mem_ctl.specs.TreesHold.{IsKept};
 ghost use Rattle.mem_ctl.specs.Words.{path_written, stored};
 ghost use Rattle.mem_ctl.specs.Writes.{with_places, word_at};
-ghost use Rattle.mem_ctl.specs.WrittenPages.{PageBecomes, PagesStay};
 
 use crate::broken::Broken;
 use crate::check::{read_place, write_place};
@@ -39,10 +40,16 @@ impl<D: Digester, F: Fn(&[SlotUse]) -> usize> Ctl<D, F> {
         requires aligned { offset % 8 ≡ 0 }
         requires choice { NamesPosition F.Fn self.old.1 }
 
-        // What it answers and leaves is its function of the data; so a word that it gives is the mirror's.
+        // What it answers and leaves is its function of the data.
         ensures call { IsCall (FnReturnsAt F.Fn self.old.1) (read_word_of D.digest_of page offset) self.old.0 (outcome_of result) self.new.0 }
+
+        // A word that it gives is the one that was written, and stands off chip too.
         ensures word { IfOk result (λ word. word ≡ word_at self.old.0.mirror page offset) }
-        ensures kept { PagesStay self.old.0 self.new.0 }
+        ensures held { IfOk result (λ word. word ≡ word_at self.old.0.off_chip page offset) }
+        ensures whole { OnOk result (AllAsWritten self.old.0 (word_places page (offset / 64))) }
+        ensures stay { BothStay self.old.0 self.new.0 }
+        ensures leaves { Leaves D.digest_of self.old.0 self.new.0 }
+        ensures cause { IfErr result (IsCause D.digest_of (word_places page (offset / 64)) self.new.0) }
         ensures choice { self.new.1 ≡ self.old.1 }
     {
         let _zones = self.zones;
@@ -67,8 +74,11 @@ impl<D: Digester, F: Fn(&[SlotUse]) -> usize> Ctl<D, F> {
         requires aligned { offset % width ≡ 0 }
         requires choice { NamesPosition F.Fn self.old.1 }
         ensures call { IsCall (FnReturnsAt F.Fn self.old.1) (write_part_of D.digest_of page offset width value) self.old.0 (outcome_of result) self.new.0 }
-        ensures pages { OnOk result (PageBecomes page (with_bytes (page_bytes self.old.0.mirror page) offset (little_bytes width value)) self.old.0 self.new.0) }
-        ensures kept { OnErr result (PagesStay self.old.0 self.new.0) }
+        ensures pages { OnOk result (BothChange page (λ bytes. with_bytes bytes offset (little_bytes width value)) self.old.0 self.new.0) }
+        ensures whole { OnOk result (AllAsWritten self.old.0 (word_places page (offset / 64))) }
+        ensures stay { OnErr result (BothStay self.old.0 self.new.0) }
+        ensures leaves { Leaves D.digest_of self.old.0 self.new.0 }
+        ensures cause { IfErr result (IsCause D.digest_of (word_places page (offset / 64)) self.new.0) }
         ensures choice { self.new.1 ≡ self.old.1 }
     {
         let _zones = self.zones;
@@ -89,7 +99,10 @@ impl<D: Digester, F: Fn(&[SlotUse]) -> usize> Ctl<D, F> {
         requires offset { offset < 4096 }
         requires choice { NamesPosition F.Fn self.old.1 }
         ensures call { IsCall (FnReturnsAt F.Fn self.old.1) (ask_of D.digest_of page offset) self.old.0 (asked_outcome result) self.new.0 }
-        ensures kept { PagesStay self.old.0 self.new.0 }
+        ensures path { IfOk result (λ taken. PathIsTaken page offset self.old.0 self.new.0 (word_of_taken taken)) }
+        ensures stay { BothStay self.old.0 self.new.0 }
+        ensures leaves { Leaves D.digest_of self.old.0 self.new.0 }
+        ensures cause { IfErr result (IsCause D.digest_of [] self.new.0) }
         ensures choice { self.new.1 ≡ self.old.1 }
     {
         let _zones = self.zones;
@@ -113,7 +126,7 @@ impl<D: Digester, F: Fn(&[SlotUse]) -> usize> Ctl<D, F> {
         if let Err(broken) = self.mount((page / 64) as u8) {
             return Err(broken);
         }
-        self.slots.used((page / 64) as u8);
+        self.count((page / 64) as u8);
         let sealed = self.take_word(page, block).seal();
         if let Err(broken) = check_sealed(self.zones, &self.mirror, &sealed) {
             return Err(broken);

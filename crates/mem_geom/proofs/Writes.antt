@@ -31,7 +31,7 @@ one_place_changes zones place memory bytes exists sized size =
     }
 
 -- nothing written changes nothing
-with_bytes-none : (all : List ℕ) (at : ℕ) (bytes : List ℕ) → length bytes ≡ 0 → with_bytes all at bytes ≡ all
+pub with_bytes-none : (all : List ℕ) (at : ℕ) (bytes : List ℕ) → length bytes ≡ 0 → with_bytes all at bytes ≡ all
 with_bytes-none all at [] none = let same : at + 0 ≡ at = omega arith in ap (λ (k : ℕ). take at all ++ drop k all) same ∙ take-append-drop at all
 with_bytes-none all at (byte ∷ bytes) none = absurd (omega arith)
 

@@ -1,3 +1,4 @@
+// Off-chip memory: its bytes by address.
 ghost use Rattle.std.specs.Prelude.{◌≡◌, ◌+◌, ◌-◌, ◌≤◌, length, All, IfOk};
 ghost use Rattle.std.specs.Str.{bytes_eq};
 ghost use Rattle.pl_base.specs.Bytes.{bytes_at, with_bytes};
@@ -33,6 +34,14 @@ impl Dram {
         ensures zero { IfOk result (λ dram. All (λ byte. byte ≡ 0) dram) }
     {
         let bytes = vec![in alloc; 0; memory_size(zones)]?;
+        Ok(Dram { bytes })
+    }
+
+    /// Another memory with the same bytes.
+    pub fn copied(&self, alloc: Global) -> Result<Dram, Memory>
+        ensures { IfOk result (λ dram. dram ≡ self.now) }
+    {
+        let bytes = Vec::from_slice(alloc, &self.bytes)?;
         Ok(Dram { bytes })
     }
 

@@ -1,3 +1,4 @@
+// Where each place of off-chip memory stands.
 ghost use Rattle.std.specs.Prelude.{◌≡◌, ◌+◌, ◌≤◌, ◌<◌};
 ghost use Rattle.mem_geom.specs.Layout.{Exists, place_start, place_length, memory_end, page_start, nodes_start, nodes_of_level, nodes_before_level, root_nodes_of_level, root_nodes_before_level};
 

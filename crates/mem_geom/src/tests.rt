@@ -1,3 +1,4 @@
+// Places and bytes, at their edges.
 ghost use Rattle.std.specs.Prelude.{◌≡◌};
 
 use crate::{Dram, place_range};

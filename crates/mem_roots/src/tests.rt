@@ -1,3 +1,4 @@
+// The nodes over a zone's root, checked and replaced.
 use crate::{check_root, replace_root};
 use pl_base::Place;
 use pl_digest::Sha;

@@ -1,3 +1,4 @@
+// Slots and choices, each call once.
 ghost use Rattle.std.specs.Prelude.{◌≡◌};
 
 use crate::{Choice, SlotUse, Slots, fewest_uses, first_mounted};

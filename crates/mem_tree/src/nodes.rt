@@ -1,3 +1,4 @@
+// The nodes of a page's tree, from its bytes.
 ghost use Rattle.std.specs.Prelude.{◌≡◌, ◌*◌, length, map};
 ghost use Rattle.std.specs.List.{concat};
 ghost use Rattle.pl_digest.specs.Trees.{pieces, lower_nodes, upper_node, block_digests};

@@ -1,3 +1,4 @@
+// Parts of a block.
 ghost use Rattle.std.specs.Prelude.{◌≡◌};
 ghost use Rattle.byteorder.specs.Endian.{little_bytes};
 ghost use Rattle.pl_base.specs.Bytes.{with_bytes};

@@ -1,3 +1,4 @@
+// A path whose verdict is known, and the path with another part in its block.
 ghost use Rattle.std.specs.Prelude.{◌≡◌, ◌+◌, ◌*◌, ◌/◌, ◌%◌, ◌<◌, List, ℕ};
 ghost use Rattle.byteorder.specs.Endian.{little_bytes};
 ghost use Rattle.pl_base.specs.Bytes.{with_bytes};

@@ -1,3 +1,4 @@
+// A path as it was taken, and the first place where it breaks.
 ghost use Rattle.std.specs.Prelude.{◌≡◌, ◌<◌};
 ghost use Rattle.mem_tree.specs.Paths.{first_break};
 ghost use Rattle.mem_tree.specs.Words.{taken_path};

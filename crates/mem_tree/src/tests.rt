@@ -1,3 +1,4 @@
+// Paths that hold, break, and are renewed, over two digest functions.
 ghost use Rattle.std.specs.Prelude.{◌≡◌};
 
 use crate::{Taken, Verdict, page_nodes};

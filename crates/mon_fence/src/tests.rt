@@ -1,3 +1,4 @@
+// Fences of several harts, each call once.
 use crate::Fences;
 use pl_base::{HartNo, HartSet, Space, Vpn};
 

@@ -1,5 +1,5 @@
 // A page of an image.
-ghost use Rattle.std.specs.Prelude.{◌≡◌, length};
+ghost use Rattle.std.specs.Prelude.{◌≡◌, ◌<◌, length, All};
 
 use pl_base::Perms;
 use std::marker::Model;
@@ -32,10 +32,24 @@ impl PageBytes {
     pub fn as_slice(&self) -> &[u8]
         ensures bytes { result.now ≡ self.now }
         ensures whole { length self.now ≡ 4096 }
+        ensures small { All (λ byte. byte < 256) self.now }
     {
+        bytes_fit(self.bytes.as_slice());
         self.bytes.as_slice()
     }
+
+    /// The bytes as an array.
+    pub fn as_array(&self) -> &[u8; 4096]
+        ensures { result.now ≡ self.now }
+    {
+        self.as_slice().as_array().unwrap()
+    }
 }
+
+// What the type says of each byte, for the contracts.
+fn bytes_fit(bytes: &[u8])
+    ensures { All (λ byte. byte < 256) bytes.now }
+{}
 
 /// A page of an image: what may be done with it, and its bytes.
 #[derive(Debug, Drop)]

@@ -1,3 +1,4 @@
+// Known measurements.
 ghost use Rattle.std.specs.Prelude.{◌≤◌, length};
 
 use crate::{Image, ImagePage, ImagePages, PageBytes};

@@ -1,3 +1,4 @@
+// Owners of pages, each call once.
 ghost use Rattle.std.specs.Prelude.{◌≡◌, length};
 
 use crate::{Owner, Owners};

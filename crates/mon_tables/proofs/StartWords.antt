@@ -1,12 +1,16 @@
 -- The start words, one after another.
-use Rattle.std.proofs.Common.{◌≡◌, subst, ◌<◌, ◌≢◌, ℕ, zero, suc, ◌+◌, ◌*◌, ◌/◌, ◌%◌, ◌≤◌, ◌==◌, ◌&&◌, Bool, eqb, ltb, true, false, cond, [], ◌∷◌, ◌++◌, length, map, find, Option, Some, None, ap, sym, ◌∙◌, refl, arith, zero-add, inl, inr}
+use Rattle.std.proofs.Common.{◌≡◌, List, get_or, subst, ◌<◌, ◌≢◌, ℕ, zero, suc, ◌+◌, ◌*◌, ◌/◌, ◌%◌, ◌≤◌, eqb, ltb, true, false, cond, [], ◌∷◌, ◌++◌, length, map, find, Option, Some, None, ap, sym, ◌∙◌, refl, arith, zero-add, inl, inr}
+use Rattle.std.specs.Prelude.{AllPairs}
 use Rattle.std.specs.List.{range_with_len}
 use Rattle.std.specs.Option.{option_map_or, option_or}
-use Rattle.std.proofs.lemmas.Bool.{cases_Bool, cases_lt, cond-false, eqb-true, eqb-false, lt-ltb}
+use Rattle.std.proofs.lemmas.Bool.{ne_eqb, cases_Bool, cases_lt, cond-false, eqb-true, eqb-false, lt-ltb}
 use Rattle.std.proofs.lemmas.Bool.Decides.{nat_tests}
 use Rattle.std.proofs.lemmas.List.Folds.{find-append}
-use Rattle.std.proofs.lemmas.List.FromFn.{map-range_with_len_more, length-map-range_with_len}
-use Rattle.mon_tables.specs.SpaceWalks.{StartsEmpty, listed_word}
+use Rattle.std.proofs.lemmas.List.FromFn.{get_or-map-range_with_len, get_or-range_with_len, length-range_with_len, map-range_with_len_more, length-map-range_with_len}
+use Rattle.std.proofs.lemmas.List.Elements.{All-cons, All-map}
+use Rattle.std.proofs.lemmas.List.Kept.{AllPairs-cons}
+use Rattle.pl_base.specs.ListedWords.{AreWordsOf, listed_word, stands_at}
+use Rattle.mon_tables.specs.SpaceWalks.{StartsEmpty}
 use Rattle.mon_tables.specs.Tables.{slot_address, start_words}
 use Rattle.mon_tables.proofs.HostWalks.{has_slot}
 use Rattle.mon_tables.specs.Words.{pointer_word}
@@ -22,21 +26,18 @@ start_words-more n = ap (λ ws. (0, 0, pointer_word 1) ∷ ws) (map-range_with_l
 at_start : ℕ → ℕ × ℕ × ℕ
 at_start i = (1, 8 * i, pointer_word (2 + i))
 
-is_at : ℕ → ℕ → ℕ × ℕ × ℕ → Bool
-is_at page offset w = w.0 == page && w.1 == offset
-
 at_start-more : (n : ℕ) → map at_start (range_with_len 0 (suc n)) ≡ map at_start (range_with_len 0 n) ++ at_start n ∷ []
 at_start-more n = let one : suc n ≡ n + 1 = omega arith in ap (λ m. map at_start (range_with_len 0 m)) one ∙ map-range_with_len_more at_start 0 n n (zero-add n)
 
-one_more : (page offset n : ℕ) → find (is_at page offset) (map at_start (range_with_len 0 (suc n)))
-    ≡ option_or (find (is_at page offset) (map at_start (range_with_len 0 n))) (cond (is_at page offset (at_start n)) (Some (at_start n)) None)
-one_more page offset n = ap (find (is_at page offset)) (at_start-more n) ∙ find-append (is_at page offset) (map at_start (range_with_len 0 n)) (at_start n ∷ [])
+one_more : (page offset n : ℕ) → find (stands_at page offset) (map at_start (range_with_len 0 (suc n)))
+    ≡ option_or (find (stands_at page offset) (map at_start (range_with_len 0 n))) (cond (stands_at page offset (at_start n)) (Some (at_start n)) None)
+one_more page offset n = ap (find (stands_at page offset)) (at_start-more n) ∙ find-append (stands_at page offset) (map at_start (range_with_len 0 n)) (at_start n ∷ [])
 
 -- in page 1 the k-th word is that of the k-th last-level table
-find_middle : (tables k : ℕ) → find (is_at 1 (8 * k)) (map at_start (range_with_len 0 tables)) ≡ cond (ltb k tables) (Some (at_start k)) None
-unfolding is_at at_start
+find_middle : (tables k : ℕ) → find (stands_at 1 (8 * k)) (map at_start (range_with_len 0 tables)) ≡ cond (ltb k tables) (Some (at_start k)) None
+unfolding at_start
 find_middle zero k = sym (cond-false _ _ _ (let no : ltb k 0 ≡ false = grind (arith, nat_tests) in no))
-find_middle (suc n) k = one_more 1 (8 * k) n ∙ (ap (λ o. option_or o (cond (is_at 1 (8 * k) (at_start n)) (Some (at_start n)) None)) (find_middle n k) ∙ elim (cases_lt k n) [
+find_middle (suc n) k = one_more 1 (8 * k) n ∙ (ap (λ o. option_or o (cond (stands_at 1 (8 * k) (at_start n)) (Some (at_start n)) None)) (find_middle n k) ∙ elim (cases_lt k n) [
   | inl before ↦
       let there : ltb k n ≡ true = lt-ltb k n before in
       let still : ltb k (suc n) ≡ true = lt-ltb k (suc n) (omega arith) in
@@ -46,7 +47,7 @@ find_middle (suc n) k = one_more 1 (8 * k) n ∙ (ap (λ o. option_or o (cond (i
       rw none (last not_before)
 ])
   where
-    last : n ≤ k → cond (is_at 1 (8 * k) (at_start n)) (Some (at_start n)) None ≡ cond (ltb k (suc n)) (Some (at_start k)) None
+    last : n ≤ k → cond (stands_at 1 (8 * k) (at_start n)) (Some (at_start n)) None ≡ cond (ltb k (suc n)) (Some (at_start k)) None
     last not_before = elim (cases_Bool (eqb n k)) [
       | inl same ↦
           let is : n ≡ k = eqb-true n k same in
@@ -61,19 +62,19 @@ find_middle (suc n) k = one_more 1 (8 * k) n ∙ (ap (λ o. option_or o (cond (i
     ]
 
 -- none of them stands in another page
-find_elsewhere : (tables page offset : ℕ) → page ≢ 1 → find (is_at page offset) (map at_start (range_with_len 0 tables)) ≡ None
-unfolding is_at at_start
+find_elsewhere : (tables page offset : ℕ) → page ≢ 1 → find (stands_at page offset) (map at_start (range_with_len 0 tables)) ≡ None
+unfolding at_start
 find_elsewhere zero page offset other = refl
-find_elsewhere (suc n) page offset other = one_more page offset n ∙ (ap (λ o. option_or o (cond (is_at page offset (at_start n)) (Some (at_start n)) None)) (find_elsewhere n page offset other) ∙ last)
+find_elsewhere (suc n) page offset other = one_more page offset n ∙ (ap (λ o. option_or o (cond (stands_at page offset (at_start n)) (Some (at_start n)) None)) (find_elsewhere n page offset other) ∙ last)
   where
-    last : cond (is_at page offset (at_start n)) (Some (at_start n)) None ≡ None
+    last : cond (stands_at page offset (at_start n)) (Some (at_start n)) None ≡ None
     last = let no : eqb 1 page ≡ false = grind (arith, nat_tests) in rw no refl
 
 value_of : Option (ℕ × ℕ × ℕ) → ℕ
 value_of o = option_map_or (λ (w : ℕ × ℕ × ℕ). w.2) o 0
 
 pub starts_empty : StartsEmpty
-unfolding is_at at_start value_of
+unfolding at_start value_of
 starts_empty tables words few start = record {
   root = λ k small. start 0 k (omega arith) small ∙ first k;
   middle = λ k small. start 1 k (omega arith) small ∙ (ap value_of (find_middle tables k) ∙ second k);
@@ -103,3 +104,38 @@ starts_empty tables words few start = record {
     third page offset past =
         let no : eqb 0 page ≡ false = grind (arith, nat_tests) in
         rw no (ap value_of (find_elsewhere tables page offset (λ p. let same : page ≡ 1 = p in omega arith)))
+
+-- ---- they stand in the first two pages, no two at one place
+
+abbrev Word : Type 0
+Word = ℕ × ℕ × ℕ
+
+module _ (tables : ℕ) (few : tables ≤ 32) where
+  abbrev numbers : List ℕ
+  numbers = range_with_len 0 tables
+
+  abbrev middle : List Word
+  middle = map at_start numbers
+
+  small : (k : ℕ) → k < length numbers → (e : ℕ) → get_or numbers k e < 32
+  small k h e = let below = get_or-range_with_len 0 tables k e (omega (arith, length-range_with_len 0 tables)) in omega (arith, length-range_with_len 0 tables)
+
+  apart : AllPairs (λ (v : Word) (w : Word). stands_at w.0 w.1 v ≡ false) middle
+  unfolding at_start
+  apart i j d before below =
+      let size : length middle ≡ tables = length-map-range_with_len at_start 0 tables in
+      let at = λ (k : ℕ) (h : k < tables). get_or-map-range_with_len at_start 0 tables k k d h (omega arith) in
+      let ne : 8 * i ≢ 8 * j = omega arith in
+      let is : stands_at (at_start j).0 (at_start j).1 (at_start i) ≡ false = ne_eqb (8 * i) (8 * j) ne in
+      subst (λ (v : Word). stands_at (get_or middle j d).0 (get_or middle j d).1 v ≡ false) (sym (at i (omega arith))) (subst (λ (w : Word). stands_at w.0 w.1 (at_start i) ≡ false) (sym (at j (omega arith))) is)
+
+  pub start_words-AreWordsOf : AreWordsOf 2 (start_words tables)
+  unfolding at_start
+  start_words-AreWordsOf =
+      let first : Word = (0, 0, pointer_word 1) in
+      record {
+        inside = All-cons (λ (w : Word). w.0 < 2) first middle (omega arith) (All-map (λ (w : Word). w.0 < 2) at_start numbers (λ k e h. omega arith));
+        offsets = All-cons (λ (w : Word). w.1 < 4096) first middle (omega arith) (All-map (λ (w : Word). w.1 < 4096) at_start numbers (λ k e h. let below = small k h e in omega arith));
+        aligned = All-cons (λ (w : Word). w.1 % 8 ≡ 0) first middle refl (All-map (λ (w : Word). w.1 % 8 ≡ 0) at_start numbers (λ k e h. omega arith));
+        apart = AllPairs-cons (λ (v : Word) (w : Word). stands_at w.0 w.1 v ≡ false) first middle (All-map (λ (w : Word). stands_at w.0 w.1 first ≡ false) at_start numbers (λ k e h. refl)) apart;
+      }

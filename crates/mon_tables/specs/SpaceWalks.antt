@@ -1,6 +1,6 @@
 -- What an address space gives an access, and when tables walk to it (RISC-V Privileged Architecture, Sv39).
-use Rattle.std.specs.Prelude.{◌≡◌, ℕ, ◌+◌, ◌*◌, ◌^◌, ◌<◌, ◌≤◌, ◌==◌, ◌&&◌, nat_lt, Bool, true, false, IsTrue, if◌then◌else◌, List, [], ◌∷◌, ◌++◌, length, slice_index, find, All, Option, Some, None, option_and_then}
-use Rattle.std.specs.Option.{option_map_or}
+use Rattle.std.specs.Prelude.{◌≡◌, ℕ, ◌+◌, ◌*◌, ◌^◌, ◌<◌, ◌≤◌, ◌==◌, nat_lt, Bool, true, false, IsTrue, if◌then◌else◌, List, [], ◌∷◌, ◌++◌, length, slice_index, All, Option, Some, None, option_and_then}
+use Rattle.pl_base.specs.ListedWords.{listed_word}
 use Rattle.pl_base.specs.Perms.{are_page_perms, grants}
 use Rattle.pl_base.specs.declared.access.Kind.{Kind}
 use Rattle.pl_base.specs.declared.access.Mode.{Mode}
@@ -100,10 +100,6 @@ pub record SpacesStay : Type 0 where
 -- a page's physical page number is that of its address
 abbrev pub PagesHaveNumbers : Type 0
 PagesHaveNumbers = (page : ℕ) → page_start page ≡ 4096 * ppn_of_page page
-
--- the value of a word that stands in a page at an offset, in a list of such words; 0 where none does
-abbrev pub listed_word : List (ℕ × ℕ × ℕ) → ℕ → ℕ → ℕ
-listed_word listed page offset = option_map_or (λ (w : ℕ × ℕ × ℕ). w.2) (find (λ (w : ℕ × ℕ × ℕ). w.0 == page && w.1 == offset) listed) 0
 
 -- memory in which the host's tables have the start words, and are zero elsewhere, stands for the empty space
 abbrev pub StartsEmpty : Type 0

@@ -1,5 +1,6 @@
 // The host's tables, and the roots of all spaces.
 ghost use Rattle.std.specs.Prelude.{◌≡◌, ◌≤◌};
+ghost use Rattle.pl_base.specs.ListedWords.{AreWordsOf};
 ghost use Rattle.mon_tables.specs.Tables.{host_slot, root_of, start_words};
 
 use crate::words::{pointer_word, ppn_of_page};
@@ -31,7 +32,8 @@ pub fn host_slot(tables: u8, vpn: Vpn) -> Option<(u32, u16)>
 /// are zero.
 pub fn start_words(tables: u8) -> ArrayVec<(u32, u16, u64), MOST_START_WORDS>
     requires { tables ≤ 32 }
-    ensures { result.items ≡ start_words tables }
+    ensures list { result.items ≡ start_words tables }
+    ensures words { AreWordsOf 2 result.items }
 {
     let mut words = ArrayVec::new();
     words.push((0, 0, pointer_word(1)));

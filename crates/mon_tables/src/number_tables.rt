@@ -11,7 +11,7 @@ use pl_base::{EncNo, IMAGE_START, Mode, PAGE_BYTES, Perms};
 const FIRST_LEAF: usize = (IMAGE_START / PAGE_BYTES) as usize;
 
 /// The page of one page of an image, and what may be done with it.
-#[derive(Clone, Copy, PartialEq, Eq, Debug)]
+#[derive(Clone, Copy, PartialEq, Eq, Debug, Default)]
 pub struct Leaf {
     pub page: u32,
     pub perms: Perms,
@@ -50,8 +50,8 @@ fn pointing_words(page: u32) -> [u64; 512]
     words
 }
 
-/// The page of a number's table of a level.
-fn table_number(tables: u8, e: EncNo, level: u8) -> u32
+/// The page of a number's table of a level: 2 the root, 1 the middle, 0 the last.
+pub fn table_number(tables: u8, e: EncNo, level: u8) -> u32
     requires { level < 3 }
     ensures { result ≡ table_number tables e.0 level }
 {

@@ -1,3 +1,4 @@
+// Words of page tables, against values worked by hand.
 use crate::{Leaf, host_slot, leaf_word, root_of, start_words, table_page};
 use pl_base::{EncNo, Mode, Perms, Ppn, Space, Vpn};
 

@@ -4,7 +4,7 @@ use std::io;
 use std::io::Eprint;
 
 const USAGE: &str = "usage: penglai COMMAND < SETUP
-  solo      runs the setup in one order, and prints its history and report
+  solo      runs the setup in the order that it gives, and prints its history and report
   measure   prints the measurement of each image
 The setup is TOML text on standard input; docs/FORMATS.md has its keys, its lines and what is printed.
 An example: ./penglai solo < examples/first.toml";
@@ -31,6 +31,12 @@ pub(crate) fn advise(rt: &impl Eprint, status: Status) -> io::Result<()> {
         Status::ReadFault => eprintln!(rt; "penglai: a read from standard input failed"),
         Status::WriteFault => eprintln!(rt; "penglai: a write to standard output failed"),
         Status::NoMemory => eprintln!(rt; "penglai: memory ran out, and nothing was printed"),
+        Status::Collision => {
+            eprintln!(rt; "penglai: two different byte strings with one digest were met, and the run broke off")
+        }
+        Status::Stuck => {
+            eprintln!(rt; "penglai: the run is stuck: each actor with lines left waits in an `after`")
+        }
         Status::BadSetup { rule, item, cause } => {
             tell_rule(rt, rule, item)?;
             match cause {

@@ -5,6 +5,7 @@
 mod advice;
 
 use advice::advise;
+use mem_slots::{Choice, SlotUse, fewest_uses, first_mounted};
 use penglai_main::{Status, quick};
 use pl_io::{StdSink, StdSource};
 use std::alloc::{AllocError, Global};
@@ -35,6 +36,8 @@ fn status_of(rt: HostRuntime) -> Status {
             &words,
             &mut StdSource::new(rt.reader()),
             &mut StdSink::new(io::writer(&rt)),
+            Choice::new(|slots: &[SlotUse]| first_mounted(slots)),
+            Choice::new(|slots: &[SlotUse]| fewest_uses(slots)),
         ),
         Err(_) => Status::NoMemory,
     }

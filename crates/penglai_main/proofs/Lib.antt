@@ -1,1 +1,3 @@
 pub mod MeasureLemmas
+pub mod SoloLemmas
+pub mod TopLemmas

@@ -3,11 +3,13 @@
 use Rattle.std.specs.Prelude.{◌≡◌, ◌⊎◌, ℕ, List, [], ◌∷◌, ◌++◌, codes, decimal, Option, Some, None, Ok, Err, if◌then◌else◌}
 use Rattle.std.specs.Str.{bytes_eq}
 use Rattle.pl_history.specs.declared.setup.SetupParts.{SetupParts}
-use Rattle.pl_history.specs.History.{HistoryData, IsHistory}
-use Rattle.pl_history.specs.Legal.{Legal, AllAnswered}
-use Rattle.pl_history.specs.Rules.{IsSetup}
-use Rattle.pl_history.specs.Text.{output_text}
-use Rattle.world_core.specs.Unbuilt.{first_unbuilt_of}
+use Rattle.pl_history.specs.declared.setup.ChoiceName.{ChoiceName}
+use Rattle.pl_history.specs.declared.setup.ChoiceName.TheVariants as choice_is
+use Rattle.sha2.specs.Sha256.{sha256}
+use Rattle.world_machine.specs.declared.turned.Finished.{Finished}
+use Rattle.world_machine.specs.declared.turned.Finished.TheVariants as finished
+use Rattle.world_machine.specs.Unbuilt.{first_unbuilt_of}
+use Rattle.world_machine.specs.Worlds.{WorldData}
 use Rattle.world_setup.specs.Checked.{Checked, ◌>>=◌, none_at}
 use Rattle.world_setup.specs.SetupOf.{setup_of}
 use Rattle.penglai_main.specs.declared.top.Command.{Command}
@@ -16,6 +18,7 @@ use Rattle.penglai_main.specs.declared.status.Status.{Status}
 use Rattle.penglai_main.specs.declared.status.Status.TheVariants as status_is
 use Rattle.penglai_main.specs.Ends.{Ends, Reads, ReadsToEnd, Writes, WritesPrefix, WritesNothing, Failed}
 use Rattle.penglai_main.specs.Measure.{measurements_text}
+use Rattle.penglai_main.specs.Play.{Gives, IsRunOf, run_text}
 
 -- the words are exactly one word, a command
 abbrev pub command_of : List (List ℕ) → Option Command
@@ -40,34 +43,23 @@ taken_of Measure = setup_of
 abbrev pub bad_setup_text : ℕ → ℕ → List ℕ
 bad_setup_text rule item = codes "bad setup " ++ (decimal rule ++ (codes " " ++ (decimal item ++ 10 ∷ [])))
 
--- how a run ends: each line is answered; two different byte strings of one digest are kept; no actor can go on
-pub data RunEnd : Type 0 where
-  done : RunEnd
-  collision : RunEnd
-  stuck : RunEnd
+-- the answers of the rule that a setup names
+abbrev pub choice_gives : Gives → Gives → ChoiceName → Gives
+choice_gives oldest least choice_is.Oldest = oldest
+choice_gives oldest least choice_is.Least = least
 
--- what a history shows where its run ends so; the world that is built ends in the first way alone
-abbrev pub EndsBy : RunEnd → SetupParts → HistoryData → Type 0
-EndsBy done setup history = AllAnswered setup history.bytes history.entries
-EndsBy collision setup history = ⊥
-EndsBy stuck setup history = ⊥
+-- where nothing runs, no rule answers
+abbrev pub no_choice : ChoiceName → Gives
+no_choice name slots position = ⊥
 
--- what is known of the world that a run ends with: its setup and its history meet their rules, and the abstract monitor
--- allows the history
-pub record RunFacts (end : RunEnd) (setup : SetupParts) (history : HistoryData) : Type 0 where
-  pub setup_rules : IsSetup setup
-  pub history_rules : IsHistory history
-  pub legal : Legal setup history.bytes history.entries
-  pub ends : EndsBy end setup history
-
--- a whole run: the source was read to its end and is a setup; the text is the history of its run, and its report
-pub record IsRun (end : RunEnd) (source : Ends) (text : List ℕ) : Type 0 where
+-- a whole run: the source was read to its end and is a setup; the text is that of the world that its run ends with
+pub record IsRun (gives : ChoiceName → Gives) (end : Finished) (source : Ends) (text : List ℕ) : Type 0 where
   pub at_end : ReadsToEnd source
   pub setup : SetupParts
   pub reads : Reads runnable_of source (Ok setup)
-  pub history : HistoryData
-  pub facts : RunFacts end setup history
-  pub text_is : text ≡ output_text setup.harts history
+  pub world : WorldData
+  pub run : IsRunOf sha256 (gives setup.choice) setup end world
+  pub text_is : text ≡ run_text world end
 
 -- measured images: the source was read to its end and is a setup; the text is one line for each of its images
 pub record IsMeasured (source : Ends) (text : List ℕ) : Type 0 where
@@ -76,10 +68,11 @@ pub record IsMeasured (source : Ends) (text : List ℕ) : Type 0 where
   pub reads : Reads setup_of source (Ok setup)
   pub text_is : text ≡ measurements_text setup.images
 
--- what a command that is done writes of a setup
-abbrev pub IsOutput : Command → Ends → List ℕ → Type 0
-IsOutput Solo source text = IsRun done source text
-IsOutput Measure source text = IsMeasured source text
+-- what a command writes of a setup, where all is written
+abbrev pub IsOutput : (ChoiceName → Gives) → Command → Finished → Ends → List ℕ → Type 0
+IsOutput gives Solo end source text = IsRun gives end source text
+IsOutput gives Measure finished.Done source text = IsMeasured source text
+IsOutput gives Measure end source text = ⊥
 
 -- a refused setup, with the first rule that fails and its item
 pub record IsRefusal (command : Command) (source : Ends) (rule item : ℕ) (text : List ℕ) : Type 0 where
@@ -87,17 +80,30 @@ pub record IsRefusal (command : Command) (source : Ends) (rule item : ℕ) (text
   pub text_is : text ≡ bad_setup_text rule item
 
 -- what may be written
-abbrev pub MayWrite : Command → Ends → List ℕ → Type 0
-MayWrite command source text = IsOutput command source text ⊎ ((rule : ℕ) × (item : ℕ) × IsRefusal command source rule item text)
+abbrev pub MayWrite : (ChoiceName → Gives) → Command → Ends → List ℕ → Type 0
+MayWrite gives command source text =
+    ((end : Finished) × IsOutput gives command end source text) ⊎ ((rule : ℕ) × (item : ℕ) × IsRefusal command source rule item text)
+
+-- a whole output was written
+abbrev pub IsWhole : (ChoiceName → Gives) → Command → Finished → Ends → Ends → Type 0
+IsWhole gives command end source sink = (text : List ℕ) × IsOutput gives command end source text × Writes sink text
 
 -- what each status says of the source and the sink, where the words are a command
-abbrev pub Explains : Command → Ends → Ends → Status → Type 0
-Explains command source sink status_is.Done = (text : List ℕ) × IsOutput command source text × Writes sink text
-Explains command source sink status_is.BadWords = ⊥
-Explains command source sink status_is.ReadFault = Failed source × WritesNothing sink
-Explains command source sink status_is.WriteFault = Failed sink × ((text : List ℕ) × MayWrite command source text × WritesPrefix sink text)
-Explains command source sink (status_is.BadSetup rule item cause) = (text : List ℕ) × IsRefusal command source rule item text × Writes sink text
-Explains command source sink status_is.NoMemory = WritesNothing sink
+abbrev pub Explains : (ChoiceName → Gives) → Command → Ends → Ends → Status → Type 0
+Explains gives command source sink status_is.Done = IsWhole gives command finished.Done source sink
+Explains gives command source sink status_is.BadWords = ⊥
+Explains gives command source sink status_is.ReadFault = Failed source × WritesNothing sink
+Explains gives command source sink status_is.WriteFault = Failed sink × ((text : List ℕ) × MayWrite gives command source text × WritesPrefix sink text)
+Explains gives command source sink (status_is.BadSetup rule item cause) = (text : List ℕ) × IsRefusal command source rule item text × Writes sink text
+Explains gives command source sink status_is.NoMemory = WritesNothing sink
+Explains gives command source sink status_is.Collision = IsWhole gives command finished.Collision source sink
+Explains gives command source sink status_is.Stuck = IsWhole gives command finished.Stuck source sink
+
+-- the status of a run that ended so, where all is written
+abbrev pub status_of : Finished → Status
+status_of finished.Done = status_is.Done
+status_of finished.Collision = status_is.Collision
+status_of finished.Stuck = status_is.Stuck
 
 -- the exit status of the program
 abbrev pub status_code : Status → ℕ
@@ -107,3 +113,5 @@ status_code status_is.ReadFault = 2
 status_code status_is.WriteFault = 3
 status_code (status_is.BadSetup rule item cause) = 4
 status_code status_is.NoMemory = 5
+status_code status_is.Collision = 6
+status_code status_is.Stuck = 7

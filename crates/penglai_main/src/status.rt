@@ -23,6 +23,10 @@ pub enum Status {
     },
     /// 5: memory ran out.
     NoMemory,
+    /// 6: two unequal byte strings of one digest were met.
+    Collision,
+    /// 7: each actor with lines left waits for another to answer some.
+    Stuck,
 }
 
 impl Status {
@@ -37,6 +41,8 @@ impl Status {
             Status::WriteFault => 3,
             Status::BadSetup { .. } => 4,
             Status::NoMemory => 5,
+            Status::Collision => 6,
+            Status::Stuck => 7,
         }
     }
 }

@@ -1,5 +1,6 @@
 // The top call over sources and sinks in memory: what no row of `rows/` can show.
 use crate::{Status, quick};
+use mem_slots::{Choice, SlotUse, fewest_uses, first_mounted};
 use pl_io::{MemSink, MemSource};
 use std::alloc::Global;
 use std::test::Fail;
@@ -9,7 +10,7 @@ const SETUP: &str =
     "version = 1\nharts = 1\nzones = 1\nslots = 1\ntables = 1\nenclaves = 1\nchoice = \"oldest\"\n[[image]]\nentry = \"10000\"\npages = [{ perms = \"rx\", bytes = \"930810001305a00273000000\" }]\n[[hart]]\nlines = [\"create 0 0 20\", \"run 0 10\"]\n";
 
 const HISTORY: &str =
-    "h0 0 begun\nh0 0 ok\nh0 1 begun\nh0 1 left 3 ended 000000000000002a\nend done\n";
+    "h0 0 begun\nh0 0 ok\nh0 1 begun\nh0 1 left 3 ended 000000000000002a\nroot b5de57ef1e171639b3a019b1f5c11f0efc7b324ed2c4625345014d412d67883c\nmounted 0\nend done\n";
 
 // What a call with this word and input ended with and wrote, where these reads and puts fail.
 fn outcome(
@@ -26,7 +27,9 @@ fn outcome(
     let Ok(mut sink) = MemSink::new(alloc, 65536, Vec::from_slice(alloc, failing_puts)?) else {
         return Err(Fail::from("no memory for the sink"));
     };
-    let status = quick(alloc, &words, &mut source, &mut sink);
+    let oldest = Choice::new(|slots: &[SlotUse]| first_mounted(slots));
+    let least = Choice::new(|slots: &[SlotUse]| fewest_uses(slots));
+    let status = quick(alloc, &words, &mut source, &mut sink, oldest, least);
     Ok((status, Vec::from_slice(alloc, sink.bytes())?))
 }
 
@@ -51,7 +54,7 @@ fn each_failing_read_is_told(rt: HostRuntime) -> Result<(), Fail> {
 
 #[test]
 fn each_failing_put_is_told(rt: HostRuntime) -> Result<(), Fail> {
-    for put in 0..30 {
+    for put in 0..60 {
         let (status, written) = outcome(rt.alloc(), "solo", SETUP, &[], &[put])?;
         if written.as_slice() != HISTORY.as_bytes() {
             assert_eq!(rt; status, Status::WriteFault);

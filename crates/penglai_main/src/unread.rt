@@ -4,7 +4,7 @@ ghost use Rattle.pl_io.specs.Puts.{Puts};
 ghost use Rattle.penglai_main.specs.Ends.{Later, ends};
 ghost use Rattle.penglai_main.specs.Top.{bad_setup_text, runnable_of};
 ghost use Rattle.penglai_main.specs.Unread.{Declines, Obtains, Refuses};
-ghost use Rattle.world_core.specs.Unbuilt.{first_unbuilt_of};
+ghost use Rattle.world_machine.specs.Unbuilt.{first_unbuilt_of};
 ghost use Rattle.world_setup.specs.SetupOf.{setup_of};
 
 use crate::status::Status;

@@ -1,1 +1,3 @@
+pub mod DistinctPages
 mod HartSets
+pub mod ListedWords

@@ -1,6 +1,7 @@
 pub mod Address
 pub mod Bytes
 pub mod HartSet
+pub mod ListedWords
 pub mod Pages
 pub mod Perms
 pub mod Refusals

@@ -1,3 +1,4 @@
+// A list in a public field, which contracts see as its elements.
 ghost use Rattle.std.specs.Prelude.{◌≡◌, [], ◌∷◌, ◌++◌, ◌<◌, ◌==◌, length, slice_get, slice_set, OnOk, OnErr, Some};
 ghost use Rattle.std.specs.Option.{option_copied};
 

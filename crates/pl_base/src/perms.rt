@@ -1,3 +1,4 @@
+// Permissions of a page, and kinds of access.
 ghost use Rattle.std.specs.Prelude.{⊤, ◌≡◌, [], ◌∷◌, codes};
 ghost use Rattle.pl_base.specs.Perms.{grants};
 

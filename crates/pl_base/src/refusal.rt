@@ -1,3 +1,4 @@
+// Why a line is refused.
 use crate::number::EncNo;
 use crate::place::Place;
 use crate::state::State;

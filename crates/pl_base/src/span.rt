@@ -1,3 +1,4 @@
+// Ranges of addresses.
 ghost use Rattle.std.specs.Prelude.{◌≡◌};
 ghost use Rattle.pl_base.specs.Span.{overlaps, covers};
 

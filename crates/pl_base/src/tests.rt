@@ -1,3 +1,4 @@
+// Permissions and lists, each call once.
 use crate::{Kind, Listed, Perms};
 use bitflags::Flags;
 use std::test::Fail;

@@ -1,3 +1,4 @@
+// Digest functions of byte strings.
 ghost use Rattle.std.specs.Prelude.{◌≡◌, ℕ, List, length};
 ghost use Rattle.pl_digest.specs.Digester.{AreBytes};
 

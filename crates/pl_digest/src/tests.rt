@@ -1,3 +1,4 @@
+// Known digests.
 use crate::{Digester, OneByte, Sha};
 
 fn digest_of<D: Digester>(bytes: &[u8]) -> [u8; 32] {

@@ -57,7 +57,7 @@ named-append bytes more (answer_is.Kept pa from len) inside = part-append bytes 
 
 module _ (setup : SetupParts) (bytes more : List ℕ) where
   -- each entry names a part of the bytes before
-  abbrev AllName : List Entry → Type 0
+  abbrev pub AllName : List Entry → Type 0
   AllName = AllByRecursion (NamesPart bytes)
 
   after-more : (s : Monitor) (entry : Entry) → NamesPart bytes entry → after setup (bytes ++ more) s entry ≡ after setup bytes s entry
@@ -69,7 +69,7 @@ module _ (setup : SetupParts) (bytes more : List ℕ) where
   state-more (entry ∷ entries) s inside =
       ap (λ t. state_after setup (bytes ++ more) t entries) (after-more s entry inside.0) ∙ state-more entries (after setup bytes s entry) inside.1
 
-  kept-more : (name : List ℕ) (entries : List Entry) → AllName entries → latest_kept setup (bytes ++ more) name entries ≡ latest_kept setup bytes name entries
+  pub kept-more : (name : List ℕ) (entries : List Entry) → AllName entries → latest_kept setup (bytes ++ more) name entries ≡ latest_kept setup bytes name entries
   kept-more name [] inside = refl
   kept-more name (entry ∷ entries) inside = λ i. option_or (kept-more name entries inside.1 i) (kept_by_part (named-append bytes more entry.answer inside.0 i))
     where

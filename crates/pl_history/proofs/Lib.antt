@@ -1,8 +1,10 @@
 mod AccessCases
 mod AttackCases
 mod CaseStates
+mod ForkCases
 mod HistoryCases
 pub mod HistoryLemmas
 mod MakingCases
+pub mod ProgressLemmas
 mod ProtectionLemmas
 mod RunCases

@@ -1,4 +1,4 @@
--- The printed text of a history and of its report. An answer's text goes on to the end of its line.
+-- The printed text of a history. An answer's text goes on to the end of its line.
 use Rattle.std.specs.Prelude.{ℕ, ◌+◌, ◌==◌, Bool, if◌then◌else◌, List, [], ◌∷◌, ◌++◌, codes, decimal}
 use Rattle.std.specs.List.{flat_map, slice_range}
 use Rattle.pl_base.specs.declared.place.Place.{Place}
@@ -112,11 +112,3 @@ entry_text harts bytes entry = head_text harts entry ++ answer_text bytes entry.
 -- one line an entry
 abbrev pub text_of : ℕ → HistoryData → List ℕ
 text_of harts history = flat_map (entry_text harts history.bytes) history.entries
-
--- the report of a run whose lines are all answered
-abbrev pub report_done : List ℕ
-report_done = codes "end done" ++ line_end
-
--- the history, and the report that it is done
-abbrev pub output_text : ℕ → HistoryData → List ℕ
-output_text harts history = text_of harts history ++ report_done

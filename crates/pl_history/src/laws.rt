@@ -1,5 +1,5 @@
 // Laws of histories.
-ghost use Rattle.pl_history.specs.Laws.{OneMoreIsLegal, OneMoreGives, MoreBytesLeaveLegal, MoreBytesLeaveState};
+ghost use Rattle.pl_history.specs.Laws.{OneMoreIsLegal, OneMoreGives, MoreBytesLeaveLegal, MoreBytesLeaveState, AnswersMoveOneActor, LinesBeginOnce};
 
 /// A history grows by one entry at a time: it stays legal where that entry is allowed, and the state that it gives is the one after it.
 #[tactic(auto, using(crate::proofs::HistoryLemmas::one_more_is_legal, crate::proofs::HistoryLemmas::one_more_gives))]
@@ -13,4 +13,11 @@ pub fn histories_grow_by_entries()
 pub fn added_bytes_leave_histories()
     ensures legal { MoreBytesLeaveLegal }
     ensures state { MoreBytesLeaveState }
+{}
+
+/// An entry moves its actor on by one answer, and no other. A line begins once at most, and no line of the attacker begins.
+#[tactic(auto, using(crate::proofs::ProgressLemmas::answers_move, crate::proofs::ProgressLemmas::lines_begin_once))]
+pub fn answers_move_one_actor()
+    ensures moves { AnswersMoveOneActor }
+    ensures begins { LinesBeginOnce }
 {}

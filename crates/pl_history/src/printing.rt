@@ -4,7 +4,7 @@ ghost use Rattle.std.specs.List.{All, flat_map, slice_range};
 ghost use Rattle.pl_io.specs.Puts.{Puts};
 ghost use Rattle.pl_io.specs.Numbers.{hex_text};
 ghost use Rattle.pl_history.specs.History.{part_end, NamesPart};
-ghost use Rattle.pl_history.specs.Text.{line_end, last_decimal, left_text, place_text, state_text, why_text, no_text, wrote_head, place_bytes_text, answer_text, head_text, entry_text, text_of, report_done, output_text};
+ghost use Rattle.pl_history.specs.Text.{line_end, last_decimal, left_text, place_text, state_text, why_text, no_text, wrote_head, place_bytes_text, answer_text, head_text, entry_text, text_of};
 
 use crate::answer::{Answer, Entry};
 use crate::history::History;
@@ -31,8 +31,8 @@ fn put_last<K: Sink>(sink: &mut K, name: &[u8], number: u32) -> Result<(), Faile
     )
 }
 
-// A place, without the end of the line.
-fn put_place<K: Sink>(sink: &mut K, place: &Place) -> Result<(), Failed>
+/// Writes a place, without the end of the line.
+pub fn put_place<K: Sink>(sink: &mut K, place: &Place) -> Result<(), Failed>
     ensures { Puts (K.written sink.old) (K.written sink.new) (K.faults sink.old) (K.faults sink.new) (place_text place.now) result }
 {
     match *place {
@@ -318,19 +318,4 @@ pub fn put_history<K: Sink>(sink: &mut K, harts: u8, history: &History) -> Resul
     ensures { Puts (K.written sink.old) (K.written sink.new) (K.faults sink.old) (K.faults sink.new) (text_of harts history.now) result }
 {
     put_entries(sink, harts, history.bytes(), history.entries())
-}
-
-/// Writes the last line of a report, which says that all lines are answered.
-pub fn put_done<K: Sink>(sink: &mut K) -> Result<(), Failed>
-    ensures { Puts (K.written sink.old) (K.written sink.new) (K.faults sink.old) (K.faults sink.new) report_done result }
-{
-    put_text(sink, b"end done\n")
-}
-
-/// Writes a history whose lines are all answered, one line an entry, and the report that it is done.
-pub fn put_output<K: Sink>(sink: &mut K, harts: u8, history: &History) -> Result<(), Failed>
-    ensures { Puts (K.written sink.old) (K.written sink.new) (K.faults sink.old) (K.faults sink.new) (output_text harts history.now) result }
-{
-    put_history(sink, harts, history)?;
-    put_done(sink)
 }

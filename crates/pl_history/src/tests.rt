@@ -2,7 +2,7 @@
 ghost use Rattle.std.specs.Prelude.{◌≡◌};
 ghost use Rattle.pl_history.specs.History.{part_end};
 
-use crate::{Answer, Entry, History, put_done, put_entry, put_history, put_output};
+use crate::{Answer, Entry, History, put_entry, put_history};
 use pl_base::{EncNo, No, Place, State, Why};
 use pl_io::MemSink;
 use std::alloc::Global;
@@ -204,11 +204,10 @@ fn a_history_is_filled_and_printed(rt: HostRuntime) -> Result<(), Fail> {
         sink.bytes(),
         b"h0 0 begun\nx 3 kept 80000000 ab7f\n".as_slice()
     );
-    put_done(&mut sink)?;
-    put_output(&mut sink, 2, &history)?;
+    put_history(&mut sink, 2, &history)?;
     assert_eq!(rt;
         sink.bytes(),
-        b"h0 0 begun\nx 3 kept 80000000 ab7f\nend done\nh0 0 begun\nh1 3 kept 80000000 ab7f\nend done\n".as_slice()
+        b"h0 0 begun\nx 3 kept 80000000 ab7f\nh0 0 begun\nh1 3 kept 80000000 ab7f\n".as_slice()
     );
     Ok(())
 }

@@ -1,3 +1,4 @@
+// Laws of an image that runs alone.
 ghost use Rattle.rv_alone.specs.Laws.{SentLater, WrittenLater, PermissionsStay, UnwrittenStay, WrittenOnce, WrittenWritable};
 
 /// Laws of an image that is run alone. Words that are sent later change nothing in a run so far, nor in the pages

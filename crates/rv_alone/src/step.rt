@@ -1,3 +1,4 @@
+// What one instruction does to a context.
 ghost use Rattle.std.specs.Prelude.{◌≡◌, ◌<◌, ◌*◌, ◌/◌, ◌%◌, IsTrue};
 ghost use Rattle.pl_base.specs.Width.{is_width};
 ghost use Rattle.rv_insn.specs.Table.{IsWellFormed};

@@ -1,3 +1,4 @@
+// Whether a branch is taken.
 ghost use Rattle.std.specs.Prelude.{◌≡◌};
 ghost use Rattle.rv_alu.specs.Values.{is_taken};
 

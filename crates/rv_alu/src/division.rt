@@ -1,3 +1,4 @@
+// The laws of division with remainder.
 ghost use Rattle.rv_insn.specs.declared.insn.AluOp.TheVariants.{Div, Divu, Rem, Remu, Divw, Divuw, Remw, Remuw};
 ghost use Rattle.rv_alu.specs.Values.{GivesBack, LeavesRemainder, LeavesUnsignedRemainder};
 

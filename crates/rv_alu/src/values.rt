@@ -1,3 +1,4 @@
+// The value of each arithmetic operation.
 ghost use Rattle.std.specs.Prelude.{◌≡◌};
 ghost use Rattle.rv_insn.specs.declared.insn.AluOp.TheVariants.{Mulh, Mulhsu, Mulhu, Div, Rem};
 ghost use Rattle.rv_alu.specs.Values.{alu_value, upper_half};

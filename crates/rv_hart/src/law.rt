@@ -1,3 +1,4 @@
+// Asking and learning in turn is the page walk.
 ghost use Rattle.rv_hart.specs.Translation.{AsksWhereItStands, LearnsTheWalk, WalksWithoutEntry, UsesTheEntry};
 
 use rv_sv39::steps_give_walks;

@@ -1,3 +1,4 @@
+// What a table word teaches a translation.
 ghost use Rattle.std.specs.Prelude.{◌≡◌, ◌<◌, IfOk};
 ghost use Rattle.pl_base.specs.Address.{IsPpn};
 ghost use Rattle.rv_hart.specs.Seeking.{sought, IsTable};

@@ -1,3 +1,4 @@
+// What a translation asks for next.
 ghost use Rattle.std.specs.Prelude.{◌≡◌, ◌<◌, find};
 ghost use Rattle.pl_base.specs.Address.{IsPpn, vpn_of};
 ghost use Rattle.rv_tlb.specs.Tlb.{is_of};

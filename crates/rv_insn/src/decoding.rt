@@ -1,3 +1,4 @@
+// The instruction of a word.
 ghost use Rattle.std.specs.Prelude.{◌≡◌, ◌↔◌, IfSome};
 ghost use Rattle.std.specs.Option.{option_map};
 ghost use Rattle.rv_insn.specs.Word.{opcode, rd, rs1, rs2, i_immediate, b_immediate};

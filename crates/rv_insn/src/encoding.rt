@@ -1,3 +1,4 @@
+// The word of an instruction.
 ghost use Rattle.std.specs.Prelude.{◌≡◌, ◌+◌, ◌*◌, ◌%◌, ◌^◌, ◌<◌, ℕ, ℤ, Some, IsTrue, ◌↔◌};
 ghost use Rattle.rv_insn.specs.Codes.{IsFieldsOf, IsBranchCode, IsLoadCode, IsStoreCode, IsOpCode};
 ghost use Rattle.rv_insn.specs.Table.{instruction_of, IsValid};

@@ -1,3 +1,4 @@
+// Which entry matches an access first, and what it allows.
 ghost use Rattle.std.specs.Prelude.{◌≡◌, ◌+◌, ◌*◌, ◌%◌, ◌<◌, ◌≤◌, ◌^◌, ◌&&◌, ◌↔◌, IsTrue, IsFalse, IfNone, IfSome, ℕ};
 ghost use Rattle.std.specs.List.{AllPass};
 ghost use Rattle.rv_pmp.specs.Rule.{perms_of, grants_each, is_valid};

@@ -1,3 +1,4 @@
+// The sixteen entries, and what they allow.
 ghost use Rattle.std.specs.Prelude.{◌≡◌, ◌+◌, ◌↔◌, IsTrue};
 ghost use Rattle.std.specs.List.{AllPass};
 ghost use Rattle.rv_pmp.specs.Rule.{is_valid};

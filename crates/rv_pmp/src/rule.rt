@@ -1,3 +1,4 @@
+// One protection entry.
 ghost use Rattle.std.specs.Prelude.{◌≡◌, ◌<◌, ◌^◌, IsTrue};
 ghost use Rattle.rv_pmp.specs.Rule.{perms_of, matching_of, is_valid, aligned_span, span_of};
 

@@ -1,3 +1,4 @@
+// Decisions, against the standard's cases.
 use crate::{Pmp, Rule, registers_name_ranges};
 use pl_base::Kind::{Fetch, Load, Store};
 use pl_base::{Kind, Pa};

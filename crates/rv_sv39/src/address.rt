@@ -1,3 +1,4 @@
+// Canonical addresses.
 ghost use Rattle.std.specs.Prelude.{◌≡◌, ◌↔◌, IsTrue};
 ghost use Rattle.rv_sv39.specs.Canonical.{is_canonical, ExtendsBit38};
 

@@ -1,3 +1,4 @@
+// Steps in turn are the page walk.
 ghost use Rattle.rv_sv39.specs.Step.{StepsFit};
 ghost use Rattle.rv_sv39.specs.Walk.{StepsWalk, WalksOnce, WalksBySteps, WalksOnward, StepsSay};
 

@@ -1,3 +1,4 @@
+// Steps of walks, against the standard's cases.
 use crate::{Walked, canonical, steps_give_walks, walk_step};
 use pl_base::Kind::{Fetch, Load, Store};
 use pl_base::Mode::{Super, User};

@@ -1,3 +1,4 @@
+// One step of a page walk.
 ghost use Rattle.std.specs.Prelude.{◌≡◌, ◌<◌};
 ghost use Rattle.pl_base.specs.Address.{IsPpn};
 ghost use Rattle.rv_sv39.specs.Step.{step, FitsAccess, GivesPpn};

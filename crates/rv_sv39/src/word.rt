@@ -1,3 +1,4 @@
+// The fields of a table word.
 ghost use Rattle.std.specs.Prelude.{◌≡◌, ◌<◌, ◌*◌, ◌^◌};
 ghost use Rattle.pl_base.specs.Address.{IsPpn};
 ghost use Rattle.rv_sv39.specs.Word.{has, ppn_of, perms_of, is_valid_entry, is_pointer, is_accessible, is_aligned, has_a_and_d, page_of};

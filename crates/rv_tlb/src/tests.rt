@@ -1,3 +1,4 @@
+// Translations put, found and dropped.
 use crate::{Tlb, TlbEntry};
 use pl_base::{Perms, Ppn, Space, Vpn};
 use std::process::Abort;

@@ -1,3 +1,4 @@
+// A hart's translations, in order of entry.
 ghost use Rattle.std.specs.Prelude.{◌≡◌, [], find, filter, not, IsNone, IfSome};
 
 use arrayvec::ArrayVec;

@@ -1,6 +1,7 @@
-pub mod Memory
-pub mod Owners
-pub mod Pages
-pub mod Steps
-pub mod Worlds
-pub mod Unbuilt
+pub mod Conditions
+pub mod Events
+pub mod Over
+pub mod Parts
+pub mod Report
+pub mod Running
+pub mod Turns

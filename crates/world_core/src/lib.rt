@@ -1,15 +1,21 @@
-//! The world: the scripts of a setup run line by line, and give a legal history.
+//! The world: the machine that every actor's turns move, as plain data moves it by steps.
 #![tactic(auto)]
 
-mod access;
-mod lines;
-mod memory;
-mod owners;
-mod run;
-mod script;
-mod step;
+mod acting;
+mod attacking;
+mod machine;
+mod making;
+mod opening;
+mod over;
+mod reaching;
+mod report;
+mod rounds;
+mod running;
+mod steps;
+mod talking;
 mod unbuilt;
 mod world;
 
-pub use script::run_setup;
 pub use unbuilt::first_unbuilt;
+pub use world::World;
+pub use world_machine::{Finished, Turned, Wait};

@@ -1,9 +1,10 @@
 // What of a setup isn't built yet.
-ghost use Rattle.std.specs.Prelude.{◌≡◌, ◌≤◌, ◌<◌, ◌+◌, length, not, IfSome};
+ghost use Rattle.std.specs.Prelude.{◌≡◌, ◌≤◌, ◌<◌, ◌+◌, length, not, option_map, sum_by, IfSome, List, ℕ, Option, None};
 ghost use Rattle.std.specs.List.{position};
-ghost use Rattle.world_core.specs.Unbuilt.{first_unbuilt_line, first_unbuilt_of, is_built};
+ghost use Rattle.world_machine.specs.Unbuilt.{first_unbuilt_of, is_built, joined};
 
-use pl_history::{AttackLine, Line, Setup};
+use pl_base::Listed;
+use pl_history::{Line, Setup};
 
 fn is_built(line: &Line) -> bool
     ensures { result ≡ is_built line.now }
@@ -15,6 +16,7 @@ fn is_built(line: &Line) -> bool
             | Line::Resume { .. }
             | Line::Send { .. }
             | Line::Take { .. }
+            | Line::After { .. }
     )
 }
 
@@ -26,27 +28,24 @@ fn first_unbuilt_of_hart(lines: &[Line]) -> Option<usize>
     lines.iter().position(|line| !is_built(line))
 }
 
-fn first_unbuilt_line(lines: &[Line], attacker: &[AttackLine]) -> Option<u32>
-    requires { length lines.now + length attacker.now ≤ 65536 }
-    ensures { result ≡ first_unbuilt_line lines.now attacker.now }
+// The position over all scripts.
+fn first_unbuilt_of_all(scripts: &[Listed<Line>]) -> Option<u32>
+    requires { sum_by length scripts.now ≤ 65536 }
+    ensures { result ≡ position (λ line. not (is_built line)) (joined scripts.now) }
 {
-    match first_unbuilt_of_hart(lines) {
-        Some(at) => Some(at as u32),
-        None if attacker.is_empty() => None,
-        None => Some(lines.len() as u32),
+    let mut before = 0;
+    for lines in scripts {
+        if let Some(at) = first_unbuilt_of_hart(lines.as_slice()) {
+            return Some((before + at) as u32);
+        }
+        before += lines.len();
     }
+    None
 }
 
-/// The position of the first line that isn't built yet, over the lines of each hart and then the attacker's; 0 where there is more than
-/// one hart or a protection entry. `None` where all is built.
+/// The position of the first line that isn't built yet, over the lines of hart 0, hart 1 and so on. `None` where all is built.
 pub fn first_unbuilt(setup: &Setup) -> Option<u32>
     ensures { result ≡ first_unbuilt_of setup.now }
 {
-    let parts = setup.parts();
-    match parts.lines.as_slice() {
-        [lines] if parts.harts == 1 && parts.pmp.is_empty() => {
-            first_unbuilt_line(lines.as_slice(), parts.attacker.as_slice())
-        }
-        _ => Some(0),
-    }
+    first_unbuilt_of_all(setup.parts().lines.as_slice())
 }

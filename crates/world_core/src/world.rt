@@ -1,151 +1,163 @@
-// The owners of all pages, their bytes and the enclave numbers, and what a line does to them.
-ghost use Rattle.std.specs.Prelude.{◌≡◌, ◌≢◌, ◌<◌, ◌≤◌, ◌+◌, ◌*◌, ℕ, length, map, Some, None, IfOk, slice_get, option_map, find, not, true, false};
-ghost use Rattle.rv_pmp.specs.Pmp.{page_allowed};
-ghost use Rattle.std.specs.List.{All};
-ghost use Rattle.mon_enclave.specs.Records.{enclave_at};
-ghost use Rattle.pl_base.specs.States.{is_free};
-ghost use Rattle.pl_history.specs.Monitor.{flat_page};
-ghost use Rattle.pl_history.specs.Rules.{IsSetup};
-ghost use Rattle.pl_base.specs.Refusals.{first_refusal};
-ghost use Rattle.pl_base.specs.Pages.{first_twice};
-ghost use Rattle.pl_history.specs.Making.{create_refusal, first_barred, page_refusals};
-ghost use Rattle.pl_base.specs.declared.refusal.No.TheVariants.{Barred};
-ghost use Rattle.world_core.specs.Pages.{AreApart, SameOutside, flat_pages};
-ghost use Rattle.world_core.specs.Worlds.{monitor_of, is_ready, Opens, Stands, Created, Left};
+// The world: the machine in a state that a run of its setup reaches.
+ghost use Rattle.std.specs.Prelude.{◌≡◌, ◌≢◌, ℕ, List, None, IfSome, IfOk, IsTrue, option_map, map, length, ◌≤◌};
+ghost use Rattle.std.specs.Fn.{FnReturnsAt};
+ghost use Rattle.std.specs.Option.{option_copied};
+ghost use Rattle.mem_slots.specs.Choices.{NamesPosition};
+ghost use Rattle.pl_io.specs.Puts.{Puts};
+ghost use Rattle.world_core.specs.Report.{world_report};
+ghost use Rattle.mem_slots.specs.Slots.{use_of};
+ghost use Rattle.pl_history.specs.Rules.{is_actor};
+ghost use Rattle.world_machine.specs.Reached.{Reached, opening_world};
+ghost use Rattle.world_core.specs.Parts.{collision_data};
+ghost use Rattle.world_machine.specs.Runs.{over_of};
+ghost use Rattle.world_machine.specs.Standing.{Kept};
+ghost use Rattle.world_machine.specs.Steps.{StepOf, turn_of, turned_by};
+ghost use Rattle.world_machine.specs.Unbuilt.{first_unbuilt_of};
 
-use crate::memory::PageMemory;
-use crate::owners::Owners;
-use crate::run::run_on;
-use mon_enclave::Enclaves;
-use mon_image::{Image, ImagePage};
-use pl_base::{EncNo, HartNo, Memory, No, State, Why};
-use pl_history::{SetupParts, all_pages, guarded_pages};
-use rv_pmp::Pmp;
+use crate::machine::Machine;
+use crate::report::put_report;
+use mem_ctl::Collision;
+use mem_slots::{Choice, SlotUse};
+use pl_base::{Actor, Failed, Memory};
+use pl_digest::Digester;
+use pl_history::{History, Setup};
+use pl_io::Sink;
 use std::alloc::Global;
+use std::marker::Model;
+use world_machine::{Finished, Turned, numbers_fit};
 
-// All that lines change, beside the history.
-#[derive(Debug, Drop)]
-pub struct World {
-    pub owners: Owners,
-    pub memory: PageMemory,
-    pub enclaves: Enclaves,
+/// A setup's harts, enclaves, memory controller and history, at some point of a run. Contracts see the world as plain data, and the rule
+/// that names the slot to evict.
+///
+/// Every world is one that turns reach from the world that `new` gives.
+#[derive(Drop)]
+pub struct World<D: Digester, F> {
+    machine: Machine<D, F>,
 }
 
-// The first page in a list that stands in it more than once.
-fn first_twice(pages: &[u32]) -> Option<u32>
-    ensures { result ≡ first_twice pages.now }
-{
-    pages.iter().copied().find(|page| pages.iter().filter(|other| **other == *page).count() > 1)
+impl<D: Digester, F> Model for World<D, F> {
+    ghost use Rattle.world_machine.specs.Reached.{Reached};
+    ghost use Rattle.world_machine.specs.Worlds.{WorldData};
+
+    ghost Value = { WorldData × F };
+
+    ghost view = { λ w. w.machine };
+
+    ghost invariant = { λ w. Reached D.digest_of w.machine.0 };
 }
 
-// The first page in a list that the protection entries don't leave open.
-fn first_barred(pmp: &Pmp, pages: &[u32]) -> Option<u32>
-    ensures { result ≡ find (λ page. not (page_allowed pmp.now page)) pages.now }
-{
-    pages.iter().copied().find(|page| !pmp.page_allowed(*page))
-}
-
-fn barred(setup: &SetupParts, pages: &[u32]) -> Option<No>
-    requires { IsSetup setup.now }
-    ensures { result ≡ option_map Barred (first_barred setup.now pages.now) }
-{
-    first_barred(&setup.protection(), pages).map(No::Barred)
-}
-
-// Puts the pages of an image into these pages of memory.
-fn put_image(memory: &mut PageMemory, image: &[ImagePage], pages: &[u32])
-    requires count { length pages.now ≡ length image.now }
-    requires inside { All (λ page. page < length memory.old) pages.now }
-    requires apart { AreApart pages.now }
-    ensures put { flat_pages memory.new image.now pages.now ≡ map flat_page image.now }
-    ensures outside { SameOutside pages.now memory.old memory.new }
-    ensures size { length memory.new ≡ length memory.old }
-{
-    for at in 0..pages.len() {
-        memory.put(pages[at], image[at].bytes.as_slice());
+impl<D: Digester, F: Drop> World<D, F> {
+    /// The world with which a run of a setup begins, each of whose lines is built. It takes all memory that the run needs, and fails for
+    /// want of memory alone.
+    pub fn new(
+        alloc: Global,
+        digester: D,
+        setup: Setup,
+        choice: Choice<F>,
+    ) -> Result<World<D, F>, Memory>
+        requires { first_unbuilt_of setup ≡ None }
+        ensures { IfOk result (λ world. world ≡ (opening_world D.digest_of setup, choice)) }
+    {
+        let _rules = setup.parts();
+        numbers_fit(&setup);
+        let machine = Machine::opening(alloc, digester, setup, choice)?;
+        Ok(World { machine })
     }
 }
 
-impl World {
-    // The world before the first line.
-    pub fn new(alloc: Global, setup: &SetupParts) -> Result<World, Memory>
-        requires { IsSetup setup.now }
-        ensures { IfOk result (λ world. Opens setup.now world) }
+impl<D: Digester, F: Fn(&[SlotUse]) -> usize> World<D, F> {
+    /// An actor's turn: its next event, or why it makes none. Anything but `Moved` changes nothing. The hart, if it is one, is there.
+    pub fn turn(&mut self, actor: Actor) -> Turned
+        requires actor { IsTrue (is_actor self.old.0.setup.harts actor) }
+        requires choice { NamesPosition F.Fn self.old.1 }
+        ensures step { StepOf D.digest_of (FnReturnsAt F.Fn self.old.1) self.old.0 actor self.new.0 }
+        ensures turned { (positions : List ℕ) → result ≡ turned_by (turn_of D.digest_of self.old.0 actor positions) }
+        ensures still { result ≢ Turned.Moved → self.new ≡ self.old }
+        ensures choice { self.new.1 ≡ self.old.1 }
     {
-        let guard = guarded_pages(setup.tables, setup.enclaves) as usize;
-        let pages = all_pages(setup.zones) as usize;
-        Ok(World {
-            owners: Owners::new(alloc, guard, pages)?,
-            memory: PageMemory::new(alloc, pages)?,
-            enclaves: Enclaves::new(alloc, setup.enclaves)?,
-        })
+        self.machine.turn(actor)
+    }
+}
+
+impl<D: Digester, F> World<D, F> {
+    /// How the run is over, if it is: a collision is kept, or all lines are answered, or each actor with lines left waits for another.
+    pub fn over(&self) -> Option<Finished>
+        ensures { result ≡ over_of D.digest_of self.now.0 }
+    {
+        self.machine.over()
     }
 
-    // Why these pages can't be taken. No page is mapped.
-    fn page_refusal(&self, setup: &SetupParts, pages: &[u32]) -> Option<No>
-        requires { IsSetup setup.now }
-        ensures { result ≡ first_refusal (page_refusals setup.now (monitor_of self.now 0) pages.now) }
+    /// What every world keeps: turns reach it from the world that its run begins with, so its history is legal, and it stands to the abstract
+    /// monitor's state that this history gives. It does nothing.
+    pub fn stands(&self)
+        ensures reached { Reached D.digest_of self.now.0 }
+        ensures kept { Kept D.digest_of self.now.0 }
     {
-        match self.owners.first_not_host(pages) {
-            Some(page) => Some(No::NotYours(page)),
-            None => barred(setup, pages),
-        }
+        let _machine = &self.machine;
     }
 
-    // Why a number can't be made of an image and these pages.
-    pub fn create_refusal(
-        &self,
-        setup: &SetupParts,
-        e: EncNo,
-        number: u8,
-        pages: &[u32],
-    ) -> Option<No>
-        requires e { e.0 < length self.now.enclaves }
-        requires image { number < length setup.now.images }
-        requires rules { IsSetup setup.now }
-        ensures { result ≡ create_refusal setup.now (monitor_of self.now 0) e.0 number pages.now }
+    /// The collision that is kept, if one is: two unequal strings of bytes of one digest.
+    pub fn collision(&self) -> Option<&Collision>
+        ensures { option_map collision_data (option_copied result) ≡ self.now.0.collision }
     {
-        let image = &setup.images.as_slice()[usize::from(number)];
-        if !matches!(self.enclaves.get(e).state, State::Free) {
-            return Some(No::Exists);
-        }
-        if pages.len() != image.pages.as_slice().len() {
-            return Some(No::Count);
-        }
-        if let Some(page) = first_twice(pages) {
-            return Some(No::Twice(page));
-        }
-        self.page_refusal(setup, pages)
+        self.machine.collision.as_ref()
     }
 
-    // Makes a number of an image, from these pages.
-    pub fn create(&mut self, setup: &SetupParts, e: EncNo, number: u8, pages: &[u32])
-        requires e { e.0 < length self.old.enclaves }
-        requires image { number < length setup.now.images }
-        requires sizes { length self.old.memory ≡ length self.old.owners }
-        requires allowed { create_refusal setup.now (monitor_of self.old 0) e.0 number pages.now ≡ None }
-        ensures { Created setup.now e.0 number pages.now self.old self.new }
+    /// How many events were made so far, up to the greatest count.
+    pub fn moves(&self) -> u64
+        ensures { result ≡ self.now.0.moves }
     {
-        let image = &setup.images.as_slice()[usize::from(number)];
-        self.owners.take_all(pages, e);
-        self.enclaves.build(e, number, image, pages);
-        put_image(&mut self.memory, image.pages.as_slice(), pages);
-        self.enclaves.set_state(e, State::Fresh);
+        self.machine.moves
     }
 
-    // Runs an enclave on hart 0 for at most so many instructions, and says how many retired, and why it left.
-    pub fn run(&mut self, setup: &SetupParts, e: EncNo, budget: u32, at: u32) -> (u32, Why)
-        requires e { e.0 < length self.old.enclaves }
-        requires stands { Stands setup.now self.old at }
-        requires ready { is_ready (enclave_at self.old.enclaves e.0).state ≡ true }
-        requires few { at < 65536 }
-        ensures { Left setup.now e.0 budget result.0 result.1 at self.old self.new }
+    /// The setup of the run.
+    pub fn setup(&self) -> &Setup
+        ensures { result.now ≡ self.now.0.setup }
     {
-        self.enclaves.enter(e, HartNo(0));
-        let number = self.enclaves.get(e).image;
-        let image = &setup.images.as_slice()[usize::from(number)];
-        let (count, why) = run_on(&mut self.memory, &mut self.enclaves, image, e, budget);
-        self.enclaves.left(e, why);
-        (count, why)
+        &self.machine.setup
+    }
+
+    /// What was answered so far: a legal history.
+    pub fn history(&self) -> &History
+        ensures history { result.now ≡ self.now.0.history }
+        ensures kept { Kept D.digest_of self.now.0 }
+    {
+        &self.machine.history
+    }
+
+    /// The root of the root table, on chip.
+    pub fn root(&self) -> [u8; 32]
+        ensures { result ≡ self.now.0.ctl.root }
+    {
+        self.machine.ctl.root()
+    }
+
+    /// The mounted zones with their uses, in order of mounting.
+    pub fn mounted(&self) -> &[SlotUse]
+        ensures list { result.now ≡ map use_of self.now.0.ctl.mounted }
+        ensures few { length result.now ≤ self.now.0.ctl.slots }
+    {
+        self.machine.ctl.mounted()
+    }
+
+    /// Writes the report of a run that is over: the root on chip, the mounted zones, and how it ended.
+    pub fn put_report<K: Sink>(&self, sink: &mut K) -> Result<(), Failed>
+        requires over { over_of D.digest_of self.now.0 ≢ None }
+        ensures { IfSome (over_of D.digest_of self.now.0) (λ end. Puts (K.written sink.old) (K.written sink.new) (K.faults sink.old) (K.faults sink.new) (world_report self.now.0 end) result) }
+    {
+        let Some(end) = self.over() else {
+            return Ok(());
+        };
+        let root = self.root();
+        put_report(sink, &root, self.mounted(), self.collision(), end)
+    }
+
+    /// The rule that names the slot to evict, again.
+    pub fn into_choice(self) -> Choice<F>
+        ensures { result ≡ self.1 }
+    {
+        let World { machine } = self;
+        let Machine { ctl, .. } = machine;
+        ctl.into_choice()
     }
 }

@@ -1,0 +1,310 @@
+// The controller with its trees: what is refused, where, and what stays. Addresses are worked by hand from the layout, digests are from
+// another program.
+ghost use Rattle.mem_slots.specs.Choices.{NamesPosition};
+
+use crate::bench::{Access, Bench};
+use mem_ctl::{Broken, Told};
+use mem_slots::{Choice, SlotUse, fewest_uses, first_mounted};
+use pl_base::Place;
+use pl_digest::{OneByte, Sha};
+use std::process::Abort;
+use std::test::Fail;
+
+const TOP: Place = Place::RootNode { level: 2, index: 0 };
+
+fn node(level: u8, index: u16) -> Place {
+    Place::Node {
+        level,
+        zone: 0,
+        index,
+    }
+}
+
+// The root of one zone, with word 1 at the start of page 0, and 2 and 3 at the start of page 1.
+const START_ROOT: [u8; 32] = [
+    0xb3, 0x51, 0xf6, 0x19, 0xa5, 0x06, 0xe1, 0xed, 0x16, 0xba, 0xa8, 0xf4, 0x4c, 0x9d, 0xdd, 0x07,
+    0xe2, 0x71, 0x0e, 0x4f, 0xde, 0x33, 0x4a, 0x73, 0x62, 0xe1, 0x32, 0xb8, 0xa1, 0xae, 0xe1, 0xb9,
+];
+
+// The root of that zone and one of zeros.
+const TWO_ZONES_ROOT: [u8; 32] = [
+    0x79, 0xa8, 0xa2, 0xe0, 0xd5, 0x6e, 0x04, 0xaf, 0xb9, 0xc1, 0xf3, 0x8f, 0xdc, 0xb1, 0x50, 0x8d,
+    0x61, 0x25, 0xc9, 0x00, 0x84, 0x47, 0xe7, 0x6a, 0xda, 0xcb, 0x4a, 0xd6, 0x77, 0x61, 0x8f, 0x20,
+];
+
+#[test]
+fn start_words_stand_under_the_root(rt: HostRuntime) -> Result<(), Fail> {
+    let words = [(0, 0, 1), (1, 0, 2), (1, 8, 3)];
+    let oldest = Choice::new(|slots: &[SlotUse]| first_mounted(slots));
+    let mut bench = Bench::new(rt.alloc(), Sha, 1, 1, &words, oldest)?;
+    assert_eq!(rt; bench.root(), START_ROOT);
+    assert!(rt; bench.mounted().is_empty());
+    assert_eq!(rt; bench.read(&rt, 1, 8), Ok(3));
+    assert_eq!(rt; bench.write(&rt, 63, 4088, 4), Ok(()));
+    assert_eq!(rt; bench.read(&rt, 63, 4088), Ok(4));
+    assert_eq!(rt; bench.mounted(), [slot(0, 3)].as_slice());
+    let oldest = Choice::new(|slots: &[SlotUse]| first_mounted(slots));
+    let two = Bench::new(rt.alloc(), Sha, 2, 1, &words, oldest)?;
+    assert_eq!(rt; two.root(), TWO_ZONES_ROOT);
+    Ok(())
+}
+
+const ACCESSES: [Access; 4] = [Access::Read, Access::Write, Access::Get, Access::Put];
+
+// A place is broken by one bit before each access to page 20, and mended after it. Those that check it must name it.
+fn breaks<F: Fn(&[SlotUse]) -> usize + Drop>(
+    rt: &impl Abort,
+    bench: &mut Bench<Sha, F>,
+    pa: u64,
+    place: Place,
+    checked: [bool; 4],
+)
+    requires { NamesPosition F.Fn bench.old }
+    ensures { NamesPosition F.Fn bench.new }
+{
+    let mut right = [0];
+    bench.peek(rt, pa, &mut right);
+    for i in 0..4usize {
+        let changed = bench.attack(rt, pa, &[right[0] ^ 1]);
+        assert!(rt; changed);
+        let answer = bench.attempt(rt, ACCESSES[i]);
+        let wanted = if checked[i] {
+            Some(Broken::Fault(place))
+        } else {
+            None
+        };
+        assert_eq!(rt; answer, wanted, "{place:?}, {:?}", ACCESSES[i]);
+        bench.attack(rt, pa, &right);
+    }
+}
+
+#[test]
+fn each_place_of_a_path_breaks_as_itself(rt: HostRuntime) -> Result<(), Fail> {
+    let oldest = Choice::new(|slots: &[SlotUse]| first_mounted(slots));
+    let mut bench = Bench::new(rt.alloc(), Sha, 1, 1, &[], oldest)?;
+    bench.flip(&rt, 0x8006_5100);
+    assert_eq!(rt; bench.attempt(&rt, Access::Put), Some(Broken::Fault(TOP)));
+    bench.flip(&rt, 0x8006_5100);
+    bench.flip(&rt, 0x8006_4900);
+    let over = Some(Broken::Fault(table_node(0)));
+    assert_eq!(rt; bench.attempt(&rt, Access::Get), over);
+    bench.flip(&rt, 0x8006_4900);
+    assert!(rt; bench.mounted().is_empty());
+    assert_eq!(rt; bench.read(&rt, 20, 0), Ok(0));
+    let all = [true, true, true, true];
+    let not_new = [true, true, true, false];
+    let whole = [false, false, true, false];
+    breaks(&rt, &mut bench, 0x8006_4800, node(4, 0), all);
+    breaks(&rt, &mut bench, 0x8006_4200, node(3, 2), all);
+    breaks(&rt, &mut bench, 0x8006_1400, node(2, 20), not_new);
+    breaks(&rt, &mut bench, 0x8004_a000, node(1, 160), not_new);
+    breaks(&rt, &mut bench, 0x8004_a7ff, node(1, 167), whole);
+    let first = Place::Block { page: 20, block: 0 };
+    breaks(&rt, &mut bench, 0x8001_4000, first, not_new);
+    let last = Place::Block {
+        page: 20,
+        block: 63,
+    };
+    breaks(&rt, &mut bench, 0x8001_4fff, last, whole);
+    Ok(())
+}
+
+// Over the first byte of SHA-256: other bytes that another program found, with the digest of the right ones. All pages are zero, so the
+// nodes of a zone are eight times f5 and 31 zero bytes.
+#[test]
+fn other_bytes_of_the_same_digest_collide(rt: HostRuntime) -> Result<(), Fail> {
+    let oldest = Choice::new(|slots: &[SlotUse]| first_mounted(slots));
+    let mut bench = Bench::new(rt.alloc(), OneByte, 1, 1, &[], oldest)?;
+    collides(&rt, &mut bench, 0x8006_5100, (255, 46), TOP);
+    collides(&rt, &mut bench, 0x8006_4900, (255, 106), table_node(0));
+    assert!(rt; bench.mounted().is_empty());
+    assert_eq!(rt; bench.read(&rt, 20, 0), Ok(0));
+    collides(&rt, &mut bench, 0x8006_4800, (254, 84), node(4, 0));
+    collides(&rt, &mut bench, 0x8006_4200, (254, 84), node(3, 2));
+    collides(&rt, &mut bench, 0x8006_1400, (254, 84), node(2, 20));
+    collides(&rt, &mut bench, 0x8004_a000, (254, 84), node(1, 160));
+    let block = Place::Block { page: 20, block: 0 };
+    collides(&rt, &mut bench, 0x8001_4000, (0, 100), block);
+    Ok(())
+}
+
+// A byte of a place becomes another, a read of page 20 finds the collision, and the byte is mended.
+fn collides<F: Fn(&[SlotUse]) -> usize + Drop>(
+    rt: &impl Abort,
+    bench: &mut Bench<OneByte, F>,
+    pa: u64,
+    other: (u64, u8),
+    place: Place,
+)
+    requires { NamesPosition F.Fn bench.old }
+    ensures { NamesPosition F.Fn bench.new }
+{
+    let (at, byte) = other;
+    let mut right = [0];
+    assert!(rt; at < 256 && pa < 0x9000_0000);
+    bench.peek(rt, pa + at, &mut right);
+    bench.attack(rt, pa + at, &[byte]);
+    match bench.attempt(rt, Access::Read) {
+        Some(Broken::Collision(found)) => {
+            assert_eq!(rt; found.place, place);
+            assert_eq!(rt; found.held.get(at as usize), Some(&byte));
+            assert_eq!(rt; found.written.get(at as usize), Some(&right[0]));
+        }
+        other => panic!(rt; "{place:?}: {other:?}"),
+    }
+    bench.attack(rt, pa + at, &right);
+}
+
+// The level-2 node of page 21 is written over that of page 20: page 20 breaks there, and page 21 is as it was. When the node of page 20
+// then goes to the place of page 21's, page 21 breaks too.
+#[test]
+fn a_page_breaks_under_the_node_of_another(rt: HostRuntime) -> Result<(), Fail> {
+    let oldest = Choice::new(|slots: &[SlotUse]| first_mounted(slots));
+    let mut bench = Bench::new(rt.alloc(), Sha, 1, 1, &[], oldest)?;
+    assert_eq!(rt; bench.put(&rt, 20, &[1; 4096]), Ok(()));
+    assert_eq!(rt; bench.put(&rt, 21, &[2; 4096]), Ok(()));
+    let mut of_20 = [0; 256];
+    let mut of_21 = [0; 256];
+    bench.peek(&rt, 0x8006_1400, &mut of_20);
+    bench.peek(&rt, 0x8006_1500, &mut of_21);
+    bench.attack(&rt, 0x8006_1400, &of_21);
+    assert_eq!(rt; bench.read(&rt, 20, 0), Err(Broken::Fault(node(2, 20))));
+    assert_eq!(rt; bench.read(&rt, 21, 0), Ok(0x0202_0202_0202_0202));
+    bench.attack(&rt, 0x8006_1500, &of_20);
+    assert_eq!(rt; bench.read(&rt, 21, 0), Err(Broken::Fault(node(2, 21))));
+    Ok(())
+}
+
+// Nine zones and one slot: the root table stands behind nine times 411,904 bytes; zones 0 to 7 are in its first node, zone 8 in the second.
+const NINE_ZONES_TABLE: u64 = 0x8000_0000 + 9 * 411_904;
+
+#[test]
+fn an_eviction_is_refused_or_stays(rt: HostRuntime) -> Result<(), Fail> {
+    let oldest = Choice::new(|slots: &[SlotUse]| first_mounted(slots));
+    let mut bench = Bench::new(rt.alloc(), Sha, 9, 1, &[], oldest)?;
+    assert_eq!(rt; bench.read(&rt, 0, 0), Ok(0));
+    let zone_0 = [slot(0, 1)];
+    bench.flip(&rt, NINE_ZONES_TABLE + 8 * 256);
+    assert_eq!(rt; bench.read(&rt, 512, 0), Err(Broken::Fault(TOP)));
+    bench.flip(&rt, NINE_ZONES_TABLE + 8 * 256);
+    bench.flip(&rt, NINE_ZONES_TABLE);
+    assert_eq!(rt; bench.read(&rt, 512, 0), Err(Broken::Fault(table_node(0))));
+    assert_eq!(rt; bench.mounted(), zone_0.as_slice());
+    bench.flip(&rt, NINE_ZONES_TABLE);
+    let root = bench.root();
+    bench.flip(&rt, NINE_ZONES_TABLE + 256);
+    assert_eq!(rt; bench.read(&rt, 512, 0), Err(Broken::Fault(table_node(1))));
+    assert!(rt; bench.mounted().is_empty());
+    assert_eq!(rt; bench.root(), root);
+    bench.flip(&rt, NINE_ZONES_TABLE + 256);
+    assert_eq!(rt; bench.read(&rt, 512, 0), Ok(0));
+    assert_eq!(rt; bench.mounted(), [slot(8, 1)].as_slice());
+    Ok(())
+}
+
+fn table_node(index: u8) -> Place {
+    Place::RootNode { level: 1, index }
+}
+
+// Three zones and two slots, the first word of each zone its number and 7: they are read alike whichever zone is evicted.
+fn reads_in_turn<F: Fn(&[SlotUse]) -> usize + Drop>(
+    rt: &impl Abort,
+    bench: &mut Bench<Sha, F>,
+    slots: [SlotUse; 2],
+)
+    requires { NamesPosition F.Fn bench.old }
+{
+    for page in [0u32, 64, 128, 0, 64, 64] {
+        let word = bench.read(rt, page, 0);
+        assert_eq!(rt; word, Ok(u64::from(page) / 64 + 7));
+    }
+    assert_eq!(rt; bench.mounted(), slots.as_slice());
+}
+
+#[test]
+fn each_choice_reads_the_same_words(rt: HostRuntime) -> Result<(), Fail> {
+    let words = [(0, 0, 7), (64, 0, 8), (128, 0, 9)];
+    let oldest = Choice::new(|slots: &[SlotUse]| first_mounted(slots));
+    let mut bench = Bench::new(rt.alloc(), Sha, 3, 2, &words, oldest)?;
+    reads_in_turn(&rt, &mut bench, [slot(0, 1), slot(1, 2)]);
+    let last = Choice::new(|slots: &[SlotUse]| slots.len() - 1);
+    let mut bench = Bench::new(rt.alloc(), Sha, 3, 2, &words, last)?;
+    reads_in_turn(&rt, &mut bench, [slot(0, 2), slot(1, 2)]);
+    let least = Choice::new(|slots: &[SlotUse]| fewest_uses(slots));
+    let mut bench = Bench::new(rt.alloc(), Sha, 3, 2, &words, least)?;
+    reads_in_turn(&rt, &mut bench, [slot(0, 1), slot(1, 2)]);
+    Ok(())
+}
+
+fn slot(zone: u8, uses: u64) -> SlotUse {
+    SlotUse { zone, uses }
+}
+
+// A path that was asked for is obeyed while the root of its zone stands. After a write, and where the zone isn't mounted by now, it is to
+// be asked for again. Asking counts no use, and a path that is obeyed counts one.
+#[test]
+fn an_asked_path_is_told_under_its_root(rt: HostRuntime) -> Result<(), Fail> {
+    let oldest = Choice::new(|slots: &[SlotUse]| first_mounted(slots));
+    let mut bench = Bench::new(rt.alloc(), Sha, 2, 1, &[(20, 0, 5)], oldest)?;
+    let sealed = bench.ask(&rt, 20, 0).map_err(|_| Refused)?;
+    assert_eq!(rt; bench.mounted(), [slot(0, 0)].as_slice());
+    assert_eq!(rt; bench.tell_read(&rt, &sealed), Ok(5));
+    assert_eq!(rt; bench.mounted(), [slot(0, 1)].as_slice());
+    assert_eq!(rt; bench.tell_write(&rt, &sealed, 9), Ok(5));
+    assert_eq!(rt; bench.read(&rt, 20, 0), Ok(9));
+    let taken_root = sealed.taken().root;
+    match bench.tell_read(&rt, &sealed) {
+        Err(
+            Told::Again {
+                taken_root: old,
+                root: Some(root),
+            },
+        ) => assert!(rt; old == taken_root && root != taken_root),
+        other => panic!(rt; "{other:?}"),
+    }
+    assert_eq!(rt; bench.read(&rt, 64, 0), Ok(0));
+    let again = Told::Again {
+        taken_root,
+        root: None,
+    };
+    assert_eq!(rt; bench.tell_read(&rt, &sealed), Err(again));
+    Ok(())
+}
+
+#[derive(Clone, Copy, PartialEq, Eq, Debug)]
+struct Refused;
+
+// The block's bytes have the digest of the written ones when the path is taken.
+#[test]
+fn a_collision_is_told(rt: HostRuntime) -> Result<(), Fail> {
+    let oldest = Choice::new(|slots: &[SlotUse]| first_mounted(slots));
+    let mut bench = Bench::new(rt.alloc(), OneByte, 1, 1, &[], oldest)?;
+    bench.attack(&rt, 0x8001_4000, &[100]);
+    let sealed = bench.ask(&rt, 20, 0).map_err(|_| Refused)?;
+    match bench.tell_read(&rt, &sealed) {
+        Err(Told::Broken(Broken::Collision(found))) => {
+            assert_eq!(rt; found.place, Place::Block { page: 20, block: 0 });
+        }
+        other => panic!(rt; "{other:?}"),
+    }
+    Ok(())
+}
+
+#[test]
+fn raw_calls_touch_off_chip_bytes_alone(rt: HostRuntime) -> Result<(), Fail> {
+    let oldest = Choice::new(|slots: &[SlotUse]| first_mounted(slots));
+    let mut bench = Bench::new(rt.alloc(), Sha, 1, 1, &[(20, 8, 5)], oldest)?;
+    bench.raw_write(&rt, 20, 8, 0x0807_0605_0403_0201);
+    assert_eq!(rt; bench.raw_read(&rt, 20, 8), 0x0807_0605_0403_0201);
+    let mut bytes = [0; 4];
+    bench.peek(&rt, 0x8001_4006, &mut bytes);
+    assert_eq!(rt; bytes, [0, 0, 1, 2]);
+    assert_eq!(rt; bench.written(&rt, 20, 0)[8], 5);
+    bench.raw_zero(&rt, 20);
+    assert_eq!(rt; bench.raw_read(&rt, 20, 8), 0);
+    assert!(rt; !bench.attack(&rt, 0x8001_4000, &[0; 64]));
+    assert!(rt; bench.attack(&rt, 0x8001_4008, &[5]));
+    assert_eq!(rt; bench.read(&rt, 20, 8), Ok(5));
+    assert_eq!(rt; bench.into_choice().pick(&[slot(0, 1)]), 0);
+    Ok(())
+}

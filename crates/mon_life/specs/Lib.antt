@@ -1,0 +1,9 @@
+pub mod Laws
+pub mod Making
+pub mod Pages
+pub mod Putting
+pub mod Running
+pub use Rattle.mem_ctl.specs.Stops
+pub use Rattle.mem_slots.specs.Choices
+pub use Rattle.mon_enclave.specs.Records
+pub use Rattle.pl_base.specs.Perms

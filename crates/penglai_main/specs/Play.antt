@@ -1,0 +1,53 @@
+-- What is known of the world that a run ends with, and what is written of it.
+use Rattle.std.specs.Prelude.{◌≡◌, ℕ, List, ◌++◌}
+use Rattle.mem_slots.specs.declared.slot_use.SlotUse.{SlotUse}
+use Rattle.pl_history.specs.declared.setup.SetupParts.{SetupParts}
+use Rattle.pl_history.specs.Text.{text_of}
+use Rattle.world_core.specs.Report.{world_report}
+use Rattle.world_machine.specs.declared.turned.Finished.{Finished}
+use Rattle.world_machine.specs.declared.turned.Finished.TheVariants as finished
+use Rattle.world_machine.specs.Endings.{EndsBy}
+use Rattle.world_machine.specs.Reached.{Reached, opening_world}
+use Rattle.world_machine.specs.Runs.{Plays}
+use Rattle.world_machine.specs.Standing.{Kept}
+use Rattle.world_machine.specs.Worlds.{WorldData}
+use Rattle.penglai_main.specs.declared.status.Status.{Status}
+use Rattle.penglai_main.specs.declared.status.Status.TheVariants as status_is
+use Rattle.penglai_main.specs.Ends.{Ends, Writes, WritesPrefix, WritesNothing, Failed}
+
+-- the answers of a rule that names the slot to evict
+abbrev pub Gives : Type 1
+Gives = List SlotUse → ℕ → Type 0
+
+-- the whole output: the history, a line an entry, and the report
+abbrev pub run_text : WorldData → Finished → List ℕ
+run_text w end = text_of w.setup.harts w.history ++ world_report w end
+
+-- The world that a run of a setup ends with. It is reached from the one that the run begins with by the turns of the setup's order and then
+-- of whole rounds, and the evicted slots are those that the choice names. So its history is legal, and the world stands to the abstract
+-- monitor's state that this history gives: each number is its image run alone on flat memory with the words sent to it, each fault that was
+-- answered names a place that the attacker changed before. And it is over in this way.
+pub record IsRunOf (digest_of : List ℕ → List ℕ) (gives : Gives) (setup : SetupParts) (end : Finished) (w : WorldData) : Type 0 where
+  pub setup_is : w.setup ≡ setup
+  pub reached : Reached digest_of w
+  pub kept : Kept digest_of w
+  pub plays : Plays digest_of gives (opening_world digest_of setup) w end
+  pub ends : EndsBy digest_of end w
+
+-- the world that a run ended with, and the whole of its output
+abbrev pub IsWritten : (List ℕ → List ℕ) → Gives → SetupParts → Finished → WorldData → Ends → Type 0
+IsWritten digest_of gives setup end w sink = IsRunOf digest_of gives setup end w × Writes sink (run_text w end)
+
+-- what the status says that a run from its beginning to this world ends with
+abbrev pub PlayedTo : (List ℕ → List ℕ) → Gives → SetupParts → WorldData → Ends → Status → Type 0
+PlayedTo digest_of gives setup w sink status_is.Done = IsWritten digest_of gives setup finished.Done w sink
+PlayedTo digest_of gives setup w sink status_is.Collision = IsWritten digest_of gives setup finished.Collision w sink
+PlayedTo digest_of gives setup w sink status_is.Stuck = IsWritten digest_of gives setup finished.Stuck w sink
+PlayedTo digest_of gives setup w sink status_is.WriteFault =
+    Failed sink × ((end : Finished) × IsRunOf digest_of gives setup end w × WritesPrefix sink (run_text w end))
+PlayedTo digest_of gives setup w sink _ = ⊥
+
+-- and what it says of a run that makes its world, for which memory may not suffice
+abbrev pub RunEnds : (List ℕ → List ℕ) → Gives → SetupParts → Ends → Status → Type 0
+RunEnds digest_of gives setup sink status_is.NoMemory = WritesNothing sink
+RunEnds digest_of gives setup sink status = (w : WorldData) × PlayedTo digest_of gives setup w sink status

@@ -1,5 +1,0 @@
-use Rattle.pl_io.proofs.PutsLemmas.{puts_then}
-use Rattle.pl_history.proofs.printing.put_output.Goals as goal
-
-pub returns : goal.returns
-returns g c = puts_then _ _ _ _ _ _ _ _ tt _ c.in_ok-put_history.ensures c.put_done.ensures

@@ -1,0 +1,11 @@
+use Rattle.std.proofs.Common.{sym, subst}
+use Rattle.std.specs.Fn.{FnReturnsAt}
+use Rattle.pl_base.specs.declared.actor.Actor.{Actor}
+use Rattle.world_core.specs.Turns.{IsTurn}
+use Rattle.world_machine.specs.Steps.{actor_turn}
+use Rattle.world_core.proofs.machine.Machine.actor_turn.Goals as goal
+
+pub returns-in-Attacker-clause-turn : goal.returns-in-Attacker-clause-turn
+returns-in-Attacker-clause-turn g c =
+    let w = c.args.self.now in
+    subst (λ (a : Actor). IsTurn (FnReturnsAt g.F.Fn w.1) (actor_turn g.D.Digester.digest_of w.0 a) c.attacker_turn.result w.0 c.attacker_turn.new.self.0) (sym c.in-Attacker.is) c.attacker_turn.ensures.turn

@@ -1,0 +1,25 @@
+use Rattle.std.proofs.Common.{ap}
+use Rattle.std.specs.Fn.{FnReturnsAt}
+use Rattle.world_core.specs.Conditions.{pages_due}
+use Rattle.world_core.proofs.TurnLemmas.{is_said, said_turn}
+use Rattle.world_core.proofs.machine.Machine.make.Goals as goal
+
+pub returns-in-Send-clause-turn : goal.returns-in-Send-clause-turn
+returns-in-Send-clause-turn g c =
+    let w = c.args.self.now in
+    said_turn (FnReturnsAt g.F.Fn w.1) g.D.Digester.digest_of w.0 c.say_idle.new.self.0 c.args.hart.0 (pages_due w.0 c.args.hart.0) c.args.due c.args.under c.say_idle.result (ap is_said c.in-Send.is) c.say_idle.ensures.turn
+
+pub returns-in-Take-clause-turn : goal.returns-in-Take-clause-turn
+returns-in-Take-clause-turn g c =
+    let w = c.args.self.now in
+    said_turn (FnReturnsAt g.F.Fn w.1) g.D.Digester.digest_of w.0 c.say_idle-in-Take.new.self.0 c.args.hart.0 (pages_due w.0 c.args.hart.0) c.args.due c.args.under c.say_idle-in-Take.result (ap is_said c.in-Take.is) c.say_idle-in-Take.ensures.turn
+
+pub returns-in-After-clause-turn : goal.returns-in-After-clause-turn
+returns-in-After-clause-turn g c =
+    let w = c.args.self.now in
+    said_turn (FnReturnsAt g.F.Fn w.1) g.D.Digester.digest_of w.0 c.say_idle-in-After.new.self.0 c.args.hart.0 (pages_due w.0 c.args.hart.0) c.args.due c.args.under c.say_idle-in-After.result (ap is_said c.in-After.is) c.say_idle-in-After.ensures.turn
+
+pub returns-in-Nothing-clause-turn : goal.returns-in-Nothing-clause-turn
+returns-in-Nothing-clause-turn g c =
+    let w = c.args.self.now in
+    said_turn (FnReturnsAt g.F.Fn w.1) g.D.Digester.digest_of w.0 c.say_idle-in-Nothing.new.self.0 c.args.hart.0 (pages_due w.0 c.args.hart.0) c.args.due c.args.under c.say_idle-in-Nothing.result (ap is_said c.in-Nothing.is) c.say_idle-in-Nothing.ensures.turn

@@ -1,0 +1,5 @@
+use Rattle.pl_io.proofs.PutsLemmas.{puts_then}
+use Rattle.world_core.proofs.report.put_named_collision.Goals as goal
+
+pub returns : goal.returns
+returns g c = puts_then _ _ _ _ _ _ _ _ tt _ c.in_ok-put_text.ensures c.put_collision.ensures

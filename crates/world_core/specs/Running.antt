@@ -1,0 +1,45 @@
+-- A run under way as plain data, and what its accesses decide.
+use Rattle.std.specs.Prelude.{ℕ, Bool, Option}
+use Rattle.pl_base.specs.declared.access.Kind.{Kind}
+use Rattle.pl_base.specs.declared.place.Place.{Place}
+use Rattle.rv_alone.specs.Effect.{act_of, advanced, loaded}
+use Rattle.mon_enclave.specs.declared.enclave.Enclave.{Enclave}
+use Rattle.mon_enclave.specs.Records.{enclave_at}
+use Rattle.world_core.specs.declared.running.Run.{Run}
+use Rattle.world_machine.specs.Making.{image_of}
+use Rattle.world_machine.specs.Pages.{located, numbers_of, part_of_word}
+use Rattle.world_machine.specs.Running.{RunNow, acts, faults, retired_with, retires}
+use Rattle.world_machine.specs.Worlds.{WorldData}
+
+abbrev pub run_now : Run → RunNow
+run_now run = record { hart = run.hart.0; e = run.e.0; budget = run.budget; count = run.count }
+
+-- the record of the number that runs
+abbrev pub runner : WorldData → RunNow → Enclave
+runner w run = enclave_at w.enclaves run.e
+
+-- the page that an access of a record goes to
+abbrev pub page_located : WorldData → Enclave → Kind → ℕ → Option ℕ
+page_located w r kind address = located kind (image_of w.setup r.image).pages (numbers_of r.pages) address
+
+-- the eight bytes that hold the word at pc are read
+abbrev pub fetch_goes : RunNow → WorldData → ℕ → WorldData
+fetch_goes run left eight =
+    let r : Enclave = runner left run in
+    let word : ℕ = part_of_word eight r.context.pc 4 in
+    acts left run r word (act_of r.context word)
+
+-- those that hold the data of a load
+abbrev pub load_goes : RunNow → ℕ → ℕ → Bool → ℕ → WorldData → ℕ → WorldData
+load_goes run address width is_signed rd left eight =
+    let r : Enclave = runner left run in
+    retires left run (retired_with r (loaded r.context rd width is_signed (part_of_word eight address width)))
+
+-- the data of a store is written
+abbrev pub store_goes : RunNow → WorldData → Unit {0} → WorldData
+store_goes run left done =
+    let r : Enclave = runner left run in
+    retires left run (retired_with r (advanced r.context))
+
+abbrev pub run_faults : RunNow → WorldData → Place → WorldData
+run_faults run left place = faults run (runner left run) left place

@@ -1,0 +1,138 @@
+-- A hart's line without its pages, the turn that it makes, and what a turn of the machine came to.
+use Rattle.std.specs.Prelude.{ℕ, ◌≡◌, ◌<◌, Bool, true, false, List, length, Option, Some, None}
+use Rattle.mem_ctl.specs.Results.{AreGiven}
+use Rattle.mem_slots.specs.declared.slot_use.SlotUse.{SlotUse}
+use Rattle.pl_history.specs.declared.answer.Answer.TheVariants as answer_is
+use Rattle.pl_history.specs.declared.line.AttackLine.{AttackLine}
+use Rattle.pl_history.specs.declared.line.AttackLine.TheVariants as attack
+use Rattle.pl_history.specs.declared.line.Line.{Line}
+use Rattle.pl_history.specs.declared.line.Line.TheVariants as line_is
+use Rattle.pl_base.specs.declared.actor.Actor.{Actor}
+use Rattle.pl_base.specs.declared.actor.Actor.TheVariants as actor_is
+use Rattle.world_core.specs.declared.steps.Attack.{Attack}
+use Rattle.world_core.specs.declared.steps.Attack.TheVariants as attack_is
+use Rattle.world_core.specs.declared.steps.Due.{Due}
+use Rattle.world_core.specs.declared.steps.Due.TheVariants as due_is
+use Rattle.world_core.specs.Conditions.{CanAnswer, CanAttack, CanGo, CanMake, CanPut, CanReach}
+use Rattle.world_machine.specs.declared.turned.Turned.{Turned}
+use Rattle.world_machine.specs.declared.turned.Turned.TheVariants as turned
+use Rattle.world_machine.specs.declared.under.Under.{Under}
+use Rattle.world_machine.specs.declared.under.Under.TheVariants.{Idle, Putting, Running}
+use Rattle.world_machine.specs.Answering.{answers, quiet}
+use Rattle.world_machine.specs.Attacking.{attacker_waited, attacks}
+use Rattle.world_machine.specs.Making.{begin_create, put_next}
+use Rattle.world_machine.specs.Running.{begin_run, runs}
+use Rattle.world_machine.specs.Steps.{Turn, moves, rests, shown_by, turned_by, waits}
+use Rattle.world_machine.specs.Talking.{sends_word, takes_word}
+use Rattle.world_machine.specs.Worlds.{WorldData, attacker_line, hart_line, under_at}
+
+-- ---- lines without their pages
+
+abbrev pub due_of : Option Line → Due
+due_of (Some (line_is.Create e image pages)) = due_is.Create e image
+due_of (Some (line_is.Run e budget)) = due_is.Run e budget true
+due_of (Some (line_is.Resume e budget)) = due_is.Run e budget false
+due_of (Some (line_is.Send e word)) = due_is.Send e word
+due_of (Some (line_is.Take e)) = due_is.Take e
+due_of (Some (line_is.After actor count)) = due_is.After actor count
+due_of line = due_is.Nothing
+
+-- what a line needs that is answered at once
+abbrev pub CanSay : WorldData → ℕ → Due → Type 0
+CanSay w hart (due_is.Send e word) = CanGo w hart × (e.0 < length w.enclaves)
+CanSay w hart (due_is.Take e) = CanGo w hart × (e.0 < length w.enclaves)
+CanSay w hart (due_is.After actor count) = CanGo w hart × (actor < length w.answered)
+CanSay w hart due = Unit {0}
+
+abbrev pub CanSayIdle : WorldData → ℕ → Due → Under → Type 0
+CanSayIdle w hart due Idle = CanSay w hart due
+CanSayIdle w hart due under = Unit {0}
+
+-- what a turn needs, by the line and how far it is
+abbrev pub CanDue : WorldData → ℕ → Due → Under → Type 0
+CanDue w hart (due_is.Create e image) Idle = CanMake w hart e.0 image
+CanDue w hart (due_is.Create e image) (Putting done) = CanPut w hart e.0 image done
+CanDue w hart (due_is.Create e image) (Running micro count) = Unit {0}
+CanDue w hart (due_is.Run e budget first) Idle = CanGo w hart × (e.0 < length w.enclaves)
+CanDue w hart (due_is.Run e budget first) (Running micro count) = CanReach w (record { hart = hart; e = e.0; budget = budget; count = count })
+CanDue w hart (due_is.Run e budget first) (Putting done) = Unit {0}
+CanDue w hart due under = CanSayIdle w hart due under
+
+module _ (digest_of : List ℕ → List ℕ) where
+  abbrev pub create_turn : WorldData → ℕ → List ℕ → List ℕ → ℕ → ℕ → Under → Turn
+  create_turn w hart positions pages e image Idle = moves (begin_create w hart e image pages)
+  create_turn w hart positions pages e image (Putting done) = moves (put_next digest_of w hart positions e image done)
+  create_turn w hart positions pages e image (Running micro count) = rests turned.Done
+
+  abbrev pub run_turn : WorldData → ℕ → List ℕ → ℕ → ℕ → Bool → Under → Turn
+  run_turn w hart positions e budget first Idle = moves (begin_run w hart e first)
+  run_turn w hart positions e budget first (Running micro count) = moves (runs digest_of w hart positions e budget micro count)
+  run_turn w hart positions e budget first (Putting done) = rests turned.Done
+
+-- a line that is answered at once
+abbrev pub say_turn : WorldData → ℕ → Due → Turn
+say_turn w hart (due_is.Send e word) = moves (sends_word w hart e.0 word)
+say_turn w hart (due_is.Take e) = moves (takes_word w hart e.0)
+say_turn w hart (due_is.After actor count) = waits w actor count (quiet (answers w hart answer_is.Ok))
+say_turn w hart due = rests turned.Done
+
+abbrev pub begun_turn : Under → Turn → Turn
+begun_turn Idle turn = turn
+begun_turn under turn = rests turned.Done
+
+module _ (digest_of : List ℕ → List ℕ) where
+  -- the turn of a hart's line, with the pages that it names
+  abbrev pub due_turn : WorldData → ℕ → List ℕ → List ℕ → Due → Under → Turn
+  due_turn w hart positions pages (due_is.Create e image) under = create_turn digest_of w hart positions pages e.0 image under
+  due_turn w hart positions pages (due_is.Run e budget first) under = run_turn digest_of w hart positions e.0 budget first under
+  due_turn w hart positions pages due under = begun_turn under (say_turn w hart due)
+
+-- what a hart's turn needs
+pub record CanTurn (w : WorldData) (hart : ℕ) : Type 0 where
+  pub actors : hart < length w.answered
+  pub harts : hart < length w.under
+  pub scripts : hart < length w.setup.lines
+  pub due : CanDue w hart (due_of (hart_line w hart)) (under_at w.under hart)
+
+-- ---- the attacker's lines without their bytes
+
+abbrev pub attack_of : Option AttackLine → Attack
+attack_of None = attack_is.Nothing
+attack_of (Some (attack.After actor count)) = attack_is.After actor count
+attack_of (Some line) = attack_is.Line
+
+abbrev pub attack_turn : WorldData → Attack → Turn
+attack_turn w attack_is.Nothing = rests turned.Done
+attack_turn w (attack_is.After actor count) = waits w actor count (attacker_waited w)
+attack_turn w attack_is.Line = moves (attacks w)
+
+-- what a line of the attacker needs
+abbrev pub CanAttackBy : WorldData → Attack → Type 0
+CanAttackBy w attack_is.Nothing = Unit {0}
+CanAttackBy w (attack_is.After actor count) = CanAnswer w w.setup.harts × (actor < length w.answered)
+CanAttackBy w attack_is.Line = CanAttack w
+
+-- what the attacker's turn needs
+pub record CanAttackTurn (w : WorldData) : Type 0 where
+  pub actors : w.setup.harts < length w.answered
+  pub due : CanAttackBy w (attack_of (attacker_line w))
+
+-- what an actor's turn needs
+abbrev pub CanActor : WorldData → Actor → Type 0
+CanActor w (actor_is.Hart h) = CanTurn w h.0
+CanActor w (actor_is.Ack h) = Unit {0}
+CanActor w actor_is.Attacker = CanAttackTurn w
+
+-- ---- turns
+
+-- the world that a turn leaves, before it is counted
+abbrev pub left_by : WorldData → Turn → WorldData
+left_by w (moves event) = event.world
+left_by w (rests why) = w
+
+-- what was answered, and the world after it, are those of the turn, with positions that the choice answers on the slots that it is shown
+pub record IsTurn (gives : List SlotUse → ℕ → Type 0) (turn : List ℕ → Turn) (answered : Turned) (old new : WorldData) : Type 0 where
+  pub positions : List ℕ
+  pub given : AreGiven gives (shown_by (turn positions)) positions
+  pub is : new ≡ left_by old (turn positions)
+  pub says : (others : List ℕ) → answered ≡ turned_by (turn others)

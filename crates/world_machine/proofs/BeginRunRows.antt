@@ -1,0 +1,307 @@
+-- The rows that begin `run` and `resume`.
+use Rattle.std.proofs.Common.{◌≡◌, ◌≢◌, ℕ, ◌<◌, Bool, true, false, List, length, unwrap_or, Option, Some, None, refl, sym, ap, ◌∙◌, subst, arith}
+use Rattle.std.specs.Prelude.{slice_set}
+use Rattle.std.proofs.lemmas.Bool.{false≢true}
+use Rattle.std.proofs.lemmas.Bool.Decides.{nat_tests}
+use Rattle.pl_base.specs.declared.number.EncNo.{EncNo}
+use Rattle.pl_base.specs.declared.refusal.No.{No}
+use Rattle.pl_base.specs.declared.state.State.{State}
+use Rattle.pl_base.specs.declared.state.State.TheVariants as state_is
+use Rattle.pl_base.specs.States.{is_free, run_refusal}
+use Rattle.rv_alone.specs.Flat.{Status, on}
+use Rattle.rv_hart.specs.declared.walks.Micro.TheVariants.{Fetching}
+use Rattle.rv_hart.specs.declared.walks.Walk.TheVariants.{Start}
+use Rattle.mon_enclave.specs.declared.enclave.Enclave.{Enclave}
+use Rattle.mon_enclave.specs.Records.{enclave_at, free_enclave, with_enclave}
+use Rattle.mon_life.specs.Running.{may_run, run_begun, run_refusal_of}
+use Rattle.pl_history.specs.declared.answer.Answer.TheVariants as answer_is
+use Rattle.pl_history.specs.declared.line.Line.{Line}
+use Rattle.pl_history.specs.declared.line.Line.TheVariants.{Create, Run, Resume}
+use Rattle.pl_history.specs.declared.setup.SetupParts.{SetupParts}
+use Rattle.pl_history.specs.Legal.{AllowedAnswer, after_answer}
+use Rattle.pl_history.specs.Monitor.{Monitor, Number, answer, begin}
+use Rattle.pl_history.specs.Rules.{is_line}
+use Rattle.pl_history.specs.Running.{entered}
+use Rattle.world_attack.specs.Room.{RoomStays}
+use Rattle.world_machine.specs.declared.under.Under.{Under}
+use Rattle.world_machine.specs.declared.under.Under.TheVariants.{Idle, Putting, Running}
+use Rattle.world_machine.specs.Answering.{entry_now, with_entry}
+use Rattle.world_machine.specs.BytesAgree.{HasPut}
+use Rattle.world_machine.specs.EnclavesAgree.{EnclaveStands, StatusStands}
+use Rattle.world_machine.specs.LinesUnderWay.{IsRunning, LineUnderWay, number_under_way}
+use Rattle.world_machine.specs.Making.{begins_unless}
+use Rattle.world_machine.specs.RecordsAgree.{LiveAgrees, RecordAgrees, RetiredAgrees, is_begun}
+use Rattle.world_machine.specs.Running.{begin_run}
+use Rattle.world_machine.specs.Standing.{Kept, state_of, written_page}
+use Rattle.world_machine.specs.Worlds.{WorldData, answered_at, hart_line, under_at}
+use Rattle.world_machine.proofs.Frames.{Frame, enclaves_frame, line_frame, records_frame}
+use Rattle.world_machine.proofs.LineKinds.{begun_line}
+use Rattle.world_machine.proofs.LineMoves.{LineMoves}
+use Rattle.world_machine.proofs.Lists.{ChangedAt, changed_set, everywhere, if_other, if_same}
+use Rattle.world_machine.proofs.QuietRows.{answers_kept, attacks_live}
+use Rattle.world_machine.proofs.RowKept.{row_kept}
+use Rattle.world_machine.proofs.SentOut.{retired_few}
+use Rattle.world_machine.proofs.SetupFacts.{line_forms, used_there}
+
+-- `run`, or `resume` where it isn't the first run
+abbrev pub run_of : Bool → EncNo → ℕ → Line
+run_of true e budget = Run e budget
+run_of false e budget = Resume e budget
+
+-- a number that can be run is fresh or paused
+abbrev pub is_ready : State → Bool
+is_ready state_is.Fresh = true
+is_ready state_is.Paused = true
+is_ready _ = false
+
+none_is : {A : Type 0} (a : A) → Some a ≡ None → ⊥
+none_is a is = cc
+
+ready_by : (first : Bool) (state : State) → run_refusal (may_run first) state ≡ None → is_ready state ≡ true
+ready_by true state_is.Fresh is = refl
+ready_by true state_is.Free is = absurd (none_is _ is)
+ready_by true state_is.Building is = absurd (none_is _ is)
+ready_by true state_is.On is = absurd (none_is _ is)
+ready_by true state_is.Paused is = absurd (none_is _ is)
+ready_by true state_is.Ended is = absurd (none_is _ is)
+ready_by true state_is.Trapped is = absurd (none_is _ is)
+ready_by true state_is.Faulted is = absurd (none_is _ is)
+ready_by true state_is.Dying is = absurd (none_is _ is)
+ready_by true state_is.Sealed is = absurd (none_is _ is)
+ready_by false state_is.Paused is = refl
+ready_by false state_is.Free is = absurd (none_is _ is)
+ready_by false state_is.Building is = absurd (none_is _ is)
+ready_by false state_is.Fresh is = absurd (none_is _ is)
+ready_by false state_is.On is = absurd (none_is _ is)
+ready_by false state_is.Ended is = absurd (none_is _ is)
+ready_by false state_is.Trapped is = absurd (none_is _ is)
+ready_by false state_is.Faulted is = absurd (none_is _ is)
+ready_by false state_is.Dying is = absurd (none_is _ is)
+ready_by false state_is.Sealed is = absurd (none_is _ is)
+
+ready_used : (state : State) → is_ready state ≡ true → is_free state ≡ false
+ready_used state_is.Free is = absurd (false≢true is)
+ready_used state is = refl
+
+ready_live : (state : State) (live : Bool) → is_ready state ≡ true → LiveAgrees state live → live ≡ true
+ready_live state_is.Fresh live is agrees = agrees
+ready_live state_is.Paused live is agrees = agrees
+ready_live state live is agrees = absurd (false≢true is)
+
+ready_status : (state : State) (status : Status) → is_ready state ≡ true → StatusStands state status → status ≡ on
+ready_status state_is.Fresh status is stands = stands
+ready_status state_is.Paused status is stands = stands
+ready_status state status is stands = absurd (false≢true is)
+
+ready_retired : (state : State) (retired n : ℕ) → is_ready state ≡ true → RetiredAgrees state retired n → retired ≡ n
+ready_retired state_is.Fresh retired n is agrees = agrees
+ready_retired state_is.Paused retired n is agrees = agrees
+ready_retired state retired n is agrees = absurd (false≢true is)
+
+-- a number that is under way can't be run
+busy : (setup : SetupParts) (bytes : ℕ → List ℕ) (rec : ℕ → Enclave) (number : ℕ → Number) (hart e : ℕ) (line : Option Line) (under : Under)
+    → LineUnderWay setup bytes rec number hart line under → number_under_way line under ≡ Some e → is_ready (rec e).state ≡ false
+busy setup bytes rec number hart e (Some (Create f image pages)) (Putting done) k is =
+    subst (λ g. is_ready (rec g).state ≡ false) (same f.0 e is) (ap is_ready k.state)
+  where
+    same : (f g : ℕ) → Some f ≡ Some g → f ≡ g
+    same f g is = ap (λ o. unwrap_or o f) is
+busy setup bytes rec number hart e (Some (Run f budget)) (Running micro count) k is =
+    subst (λ g. is_ready (rec g).state ≡ false) (ap (λ o. unwrap_or o f.0) is) (ap is_ready k.state)
+busy setup bytes rec number hart e (Some (Resume f budget)) (Running micro count) k is =
+    subst (λ g. is_ready (rec g).state ≡ false) (ap (λ o. unwrap_or o f.0) is) (ap is_ready k.state)
+busy setup bytes rec number hart e line under k is = cc
+
+-- what a run's line says in the monitor
+refused_run : (setup : SetupParts) (s : Monitor) (first : Bool) (e : EncNo) (budget : ℕ) (cause : No) → run_refusal (may_run first) (s.number e.0).state ≡ Some cause
+    → AllowedAnswer setup s (run_of first e budget) false (answer_is.No cause)
+refused_run setup s true e budget cause is = is
+refused_run setup s false e budget cause is = is
+
+begun_run : (setup : SetupParts) (s : Monitor) (first : Bool) (e : EncNo) (budget : ℕ) → run_refusal (may_run first) (s.number e.0).state ≡ None
+    → AllowedAnswer setup s (run_of first e budget) false answer_is.Begun
+begun_run setup s true e budget is = is
+begun_run setup s false e budget is = is
+
+refused_stays : (s : Monitor) (hart : ℕ) (first : Bool) (e : EncNo) (budget : ℕ) (cause : No) → after_answer s hart (run_of first e budget) (answer_is.No cause) ≡ answer s hart
+refused_stays s hart true e budget cause = refl
+refused_stays s hart false e budget cause = refl
+
+begun_gives : (s : Monitor) (hart : ℕ) (first : Bool) (e : EncNo) (budget : ℕ) → after_answer s hart (run_of first e budget) answer_is.Begun ≡ begin (entered s hart e.0) hart
+begun_gives s hart true e budget = refl
+begun_gives s hart false e budget = refl
+
+some_budget : (first : Bool) (e : EncNo) (budget : ℕ) → is_line (run_of first e budget) ≡ true → 0 < budget
+some_budget true e budget is = grind (arith, nat_tests)
+some_budget false e budget is = grind (arith, nat_tests)
+
+running_line : (setup : SetupParts) (bytes : ℕ → List ℕ) (rec : ℕ → Enclave) (number : ℕ → Number) (hart : ℕ) (first : Bool) (e : EncNo) (budget : ℕ)
+    → IsRunning setup bytes (rec e.0) (number e.0) hart budget 0 (Fetching Start) → LineUnderWay setup bytes rec number hart (Some (run_of first e budget)) (Running (Fetching Start) 0)
+running_line setup bytes rec number hart true e budget k = k
+running_line setup bytes rec number hart false e budget k = k
+
+running_number : (first : Bool) (e : EncNo) (budget f : ℕ) → number_under_way (Some (run_of first e budget)) (Running (Fetching Start) 0) ≡ Some f → e.0 ≡ f
+running_number true e budget f is = ap (λ o. unwrap_or o e.0) is
+running_number false e budget f is = ap (λ o. unwrap_or o e.0) is
+
+running_put : (first : Bool) (e : EncNo) (budget page : ℕ) → HasPut (Some (run_of first e budget)) (Running (Fetching Start) 0) page → ⊥
+running_put true e budget page put = put
+running_put false e budget page put = put
+
+module _ (digest_of : List ℕ → List ℕ) (room_stays : RoomStays) (w : WorldData) (k : Kept digest_of w) (none : w.collision ≡ None) (hart : ℕ) (below : hart < w.setup.harts)
+    (idle : under_at w.under hart ≡ Idle) (first : Bool) (e : EncNo) (budget : ℕ) (here : hart_line w hart ≡ Some (run_of first e budget)) where
+  abbrev s : Monitor
+  s = state_of w
+
+  abbrev r : Enclave
+  r = enclave_at w.enclaves e.0
+
+  abbrev n : Number
+  n = s.number e.0
+
+  agrees : RecordAgrees r n
+  agrees = k.stands.records e.0
+
+  not_begun : is_begun (under_at w.under hart) ≡ false
+  not_begun = ap is_begun idle
+
+  module _ (ready : is_ready r.state ≡ true) (passes : run_refusal (may_run first) r.state ≡ None) where
+    abbrev now : Enclave
+    now = record r { state = state_is.On; hart = record { 0 = hart } }
+
+    abbrev number_now : Number
+    number_now = record n { state = state_is.On; hart = hart }
+
+    abbrev enclaves' : List Enclave
+    enclaves' = with_enclave w.enclaves e.0 now
+
+    abbrev s' : Monitor
+    s' = begin (entered s hart e.0) hart
+
+    x : EnclaveStands w.setup (written_page w) w.owners e.0 r n
+    x = k.stands.enclaves e.0 (ready_used r.state ready)
+
+    there : e.0 < length w.enclaves
+    there = used_there w.enclaves e.0 (ready_used r.state ready)
+
+    change : ChangedAt free_enclave w.enclaves enclaves' e.0 now
+    change = changed_set free_enclave w.enclaves e.0 now there
+
+    number_here : s'.number e.0 ≡ number_now
+    number_here = if_same e.0 number_now n
+
+    number_other : (f : ℕ) → f ≢ e.0 → s'.number f ≡ s.number f
+    number_other f other = if_other e.0 f number_now (s.number f) other
+
+    live : n.live ≡ true
+    live = ready_live r.state n.live ready agrees.live
+
+    now_agrees : RecordAgrees now number_now
+    now_agrees = record {
+      state = refl;
+      live = live;
+      hart = refl;
+      image = agrees.image;
+      pages = agrees.pages;
+      given = agrees.given;
+      parent = agrees.parent;
+      sent = agrees.sent;
+      taken = agrees.taken;
+      retired = retired_few r.state r.retired n.retired agrees.retired;
+    }
+
+    now_stands : EnclaveStands w.setup (written_page w) w.owners e.0 now number_now
+    now_stands = record {
+      image = x.image;
+      image_is = x.image_is;
+      count = x.count;
+      own = x.own;
+      apart = x.apart;
+      owned = x.owned;
+      parent = x.parent;
+      now = x.now;
+      alone_is = x.alone_is;
+      context = x.context;
+      received = x.received;
+      out = x.out;
+      status = ready_status r.state x.now.status ready x.status;
+      aligned = x.aligned;
+      taken_few = x.taken_few;
+      shown_few = x.shown_few;
+      shown = x.shown;
+      pages = x.pages;
+      start = x.start;
+    }
+
+    frame : Frame w.setup e.0 (enclave_at w.enclaves) (enclave_at enclaves') s.number s'.number (written_page w) (written_page w) w.owners w.owners
+    frame = record {
+      records = change.others;
+      numbers = number_other;
+      owned = λ f page other is. is;
+      own_bytes = λ f page other is. refl;
+      table_bytes = λ f level other few low. refl;
+    }
+
+    same_retired : r.retired ≡ n.retired
+    same_retired = ready_retired r.state r.retired n.retired ready agrees.retired
+
+    moves : LineMoves w hart (slice_set w.under hart (Running (Fetching Start) 0)) w.answered (with_entry w.history (entry_now w hart answer_is.Begun)) s' (Running (Fetching Start) 0) (answered_at w.answered hart)
+    moves = begun_line digest_of room_stays w k hart below (run_of first e budget) answer_is.Begun refl here
+        (subst (λ b. AllowedAnswer w.setup s (run_of first e budget) b answer_is.Begun) (sym not_begun)
+        (begun_run w.setup s first e budget (ap (run_refusal (may_run first)) agrees.state ∙ passes)))
+        (entered s hart e.0) (λ actor. refl) (Running (Fetching Start) 0) refl (begun_gives s hart first e budget)
+
+    runs : IsRunning w.setup (written_page w) (enclave_at enclaves' e.0) (s'.number e.0) hart budget 0 (Fetching Start)
+    runs = subst (λ y. IsRunning w.setup (written_page w) y (s'.number e.0) hart budget 0 (Fetching Start)) (sym change.here)
+        (subst (λ m. IsRunning w.setup (written_page w) now m hart budget 0 (Fetching Start)) (sym number_here)
+        (record {
+          state = refl;
+          hart_is = refl;
+          within = some_budget first e budget (line_forms w.setup hart (answered_at w.answered hart) (run_of first e budget) k.sizes.rules here);
+          retired = let h : r.retired ≡ n.retired = same_retired in omega arith;
+          instruction = refl;
+        }))
+
+    begun_kept : Kept digest_of (begins_unless None (record w { enclaves = enclaves' }) hart (Running (Fetching Start) 0))
+    begun_kept = row_kept digest_of w hart w.ctl w.owners enclaves' (slice_set w.under hart (Running (Fetching Start) 0)) w.answered (with_entry w.history (entry_now w hart answer_is.Begun)) s' (Running (Fetching Start) 0) (answered_at w.answered hart) k none (record {
+      line = moves;
+      sizes = record { zones = refl; slots = refl; pages = refl; guarded = λ page is. is; numbers = change.size };
+      trees = k.trees;
+      owners_agree = record { owner = k.stands.owners.owner; maps = k.stands.owners.maps };
+      records = records_frame w.setup e.0 (enclave_at w.enclaves) (enclave_at enclaves') s.number s'.number (written_page w) (written_page w) w.owners w.owners frame k.stands.records
+          (subst (λ y. RecordAgrees y (s'.number e.0)) (sym change.here) (subst (RecordAgrees now) (sym number_here) now_agrees));
+      enclaves_agree = enclaves_frame w.setup e.0 (enclave_at w.enclaves) (enclave_at enclaves') s.number s'.number (written_page w) (written_page w) w.owners w.owners frame k.stands.enclaves
+          (λ used. subst (λ y. EnclaveStands w.setup (written_page w) w.owners e.0 y (s'.number e.0)) (sym change.here)
+          (subst (EnclaveStands w.setup (written_page w) w.owners e.0 now) (sym number_here) now_stands));
+      host = k.stands.host;
+      attacks = attacks_live w hart s' (slice_set w.under hart (Running (Fetching Start) 0)) w.answered digest_of k refl
+          (everywhere (λ f. (s'.number f).live ≡ (s.number f).live) e.0 (ap (λ (m : Number). m.live) number_here) (λ f other. ap (λ (m : Number). m.live) (number_other f other)))
+          (everywhere (λ f. (s'.number f).pages ≡ (s.number f).pages) e.0 (ap (λ (m : Number). m.pages) number_here) (λ f other. ap (λ (m : Number). m.pages) (number_other f other)))
+          (λ other differs. refl) moves.under_change.others
+          (λ page put. absurd (running_put first e budget page
+          (subst (λ l. HasPut l (Running (Fetching Start) 0) page) here (subst (λ u. HasPut (hart_line w hart) u page) moves.under_change.here put))));
+      other_lines = λ other differs. line_frame w.setup e.0 (enclave_at w.enclaves) (enclave_at enclaves') s.number s'.number (written_page w) (written_page w) w.owners w.owners frame
+          k.stands.enclaves (λ f used. subst (λ m. f < m) k.sizes.numbers (used_there w.enclaves f used)) other (hart_line w other) (under_at w.under other)
+          (λ f is same. false≢true (sym (busy w.setup (written_page w) (enclave_at w.enclaves) s.number other f (hart_line w other) (under_at w.under other) (k.stands.lines other) is)
+          ∙ ap (λ g. is_ready (enclave_at w.enclaves g).state) same ∙ ready))
+          (k.stands.lines other);
+      own_line = subst (λ l. LineUnderWay w.setup (written_page w) (enclave_at enclaves') s'.number hart l (Running (Fetching Start) 0)) (sym here)
+          (running_line w.setup (written_page w) (enclave_at enclaves') s'.number hart first e budget runs);
+      own_apart = λ other f differs own theirs.
+          let same : e.0 ≡ f = running_number first e budget f (ap (λ l. number_under_way l (Running (Fetching Start) 0)) (sym here) ∙ own) in
+          false≢true (sym (busy w.setup (written_page w) (enclave_at w.enclaves) s.number other f (hart_line w other) (under_at w.under other) (k.stands.lines other) theirs)
+          ∙ ap (λ g. is_ready (enclave_at w.enclaves g).state) (sym same) ∙ ready);
+    })
+
+  begin_by : (o : Option No) → run_refusal_of w.enclaves e.0 first ≡ o
+      → Kept digest_of (let b = Rattle.mon_life.specs.Running.entered_unless o w.enclaves (Rattle.mon_life.specs.Running.entered w.enclaves (record { 0 = hart }) e.0) in
+      begins_unless b.refusal (record w { enclaves = b.enclaves }) hart (Running (Fetching Start) 0))
+  begin_by (Some cause) is = answers_kept digest_of room_stays w k none hart below (run_of first e budget) (answer_is.No cause) refl here
+      (subst (λ b. AllowedAnswer w.setup s (run_of first e budget) b (answer_is.No cause)) (sym not_begun)
+      (refused_run w.setup s first e budget cause (ap (run_refusal (may_run first)) agrees.state ∙ is)))
+      (refused_stays s hart first e budget cause)
+  begin_by None is = begun_kept (ready_by first r.state is) is
+
+  pub begin_run_kept : Kept digest_of (begin_run w hart e.0 first).world
+  unfolding run_begun
+  begin_run_kept = begin_by (run_refusal_of w.enclaves e.0 first) refl

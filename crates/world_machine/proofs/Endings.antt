@@ -1,0 +1,188 @@
+-- What the end of a run means, in a world that keeps what worlds keep.
+use Rattle.std.proofs.Common.{◌≡◌, ℕ, zero, suc, ◌+◌, ◌<◌, ◌≤◌, eqb, leb, ltb, Bool, true, false, not, cond, ◌&&◌, if◌then◌else◌, List, [], ◌∷◌, ◌++◌, length, get_or, slice_get, unwrap_or, Option, Some, None, is_some, refl, sym, ap, ◌∙◌, subst, arith, inl, inr}
+use Rattle.std.specs.List.{flat_map, list_all, position, position_or_len, range_with_len}
+use Rattle.std.proofs.lemmas.Bool.{and_parts, cases_lt, eqb-true, false≢true}
+use Rattle.std.proofs.lemmas.Bool.Decides.{nat_tests}
+use Rattle.std.proofs.lemmas.List.Folds.{list_all-append, list_all-map}
+use Rattle.std.proofs.lemmas.List.Sums.{list_all-from_AllPass, prefix_len_passes}
+use Rattle.std.proofs.lemmas.Option.{slice_get_past}
+use Rattle.pl_base.specs.declared.actor.Actor.{Actor}
+use Rattle.pl_base.specs.declared.actor.Actor.TheVariants.{Hart, Attacker}
+use Rattle.pl_history.specs.declared.line.AttackLine.{AttackLine}
+use Rattle.pl_history.specs.declared.line.AttackLine.TheVariants as attack
+use Rattle.pl_history.specs.declared.line.Line.{Line}
+use Rattle.pl_history.specs.declared.line.Line.TheVariants.{Load, Store, Map, Unmap, Create, Shadow, Fork, Grant, Run, Resume, Send, Take, Destroy, Drop, After}
+use Rattle.pl_history.specs.declared.setup.SetupParts.{SetupParts}
+use Rattle.pl_history.specs.Legal.{AllAnswered}
+use Rattle.pl_history.specs.Monitor.{Progress, line_count, script_of}
+use Rattle.world_machine.specs.declared.turned.Finished.{Finished}
+use Rattle.world_machine.specs.declared.turned.Finished.TheVariants as finished
+use Rattle.world_machine.specs.declared.turned.Turned.TheVariants as turned
+use Rattle.world_machine.specs.declared.turned.Wait.TheVariants as wait
+use Rattle.world_machine.specs.declared.under.Under.{Under}
+use Rattle.world_machine.specs.declared.under.Under.TheVariants.{Idle, Putting, Running}
+use Rattle.world_machine.specs.Endings.{EndsBy, IsAttackBlocked, IsBlocked, IsStuck}
+use Rattle.world_machine.specs.LinesUnderWay.{LineUnderWay}
+use Rattle.world_machine.specs.Runs.{acknowledgements, all_answered, hart_turns, is_still, nobody_moves, over_of}
+use Rattle.world_machine.specs.Standing.{CollisionStands, Kept, state_of, written_page}
+use Rattle.world_machine.specs.Steps.{actor_turn, attacker_turn, due, hart_turn, moves, rests, turned_by}
+use Rattle.world_machine.specs.Unbuilt.{first_unbuilt_of, is_built, joined}
+use Rattle.world_machine.specs.Worlds.{CollisionData, Event, WorldData, answered_at, hart_line, under_at}
+use Rattle.world_machine.proofs.SetupFacts.{each_holds}
+use Rattle.mon_enclave.specs.Records.{enclave_at}
+
+-- ---- tests on lists
+
+in_range : (p : ℕ → Bool) (from n x : ℕ) → list_all p (range_with_len from n) ≡ true → from ≤ x → x < from + n → p x ≡ true
+in_range p from zero x all low high = absurd (omega arith)
+in_range p from (suc n) x all low high =
+    let parts = and_parts (p from) (list_all p (range_with_len (from + 1) n)) all in
+    elim (cases_lt x (from + 1)) [
+      | inl here ↦ let same : x ≡ from = (let h : x < from + 1 = here in omega arith) in ap p same ∙ parts.0
+      | inr later ↦ let l : from + 1 ≤ x = later in in_range p (from + 1) n x parts.1 l (omega arith)
+    ]
+
+each_joined : {A : Type 0} (p : A → Bool) (lists : List (List A)) → list_all p (flat_map (λ xs. xs) lists) ≡ true → list_all (list_all p) lists ≡ true
+each_joined p [] all = refl
+each_joined p (xs ∷ lists) all =
+    let parts = and_parts (list_all p xs) (list_all p (flat_map (λ ys. ys) lists)) (sym (list_all-append p xs (flat_map (λ ys. ys) lists)) ∙ all) in
+    ap (λ b. b && list_all (list_all p) lists) parts.0 ∙ each_joined p lists parts.1
+
+-- ---- each line is built
+
+none_below : (p n : ℕ) → cond (ltb p n) (Some p) None ≡ None → n ≤ p
+none_below p n none = grind (arith, nat_tests)
+
+twice_not : (b : Bool) → not (not b) ≡ b
+twice_not true = refl
+twice_not false = refl
+
+all_built : (lines : List Line) → position (λ line. not (is_built line)) lines ≡ None → list_all is_built lines ≡ true
+all_built lines none =
+    let past : length lines ≤ position_or_len (λ line. not (is_built line)) lines = none_below (position_or_len (λ line. not (is_built line)) lines) (length lines) none in
+    list_all-from_AllPass is_built lines (λ at line below. sym (twice_not (is_built (get_or lines at line))) ∙ prefix_len_passes (λ l. not (not (is_built l))) lines at line (omega arith))
+
+built_in : (script : Option (List Line)) (at : ℕ) (line : Line) → ((lines : List Line) → script ≡ Some lines → list_all is_built lines ≡ true) → slice_get (unwrap_or script []) at ≡ Some line → is_built line ≡ true
+built_in None at line all here = cc
+built_in (Some lines) at line all here = each_holds is_built lines at line (all lines refl) here
+
+line_built : (setup : SetupParts) (hart at : ℕ) (line : Line) → first_unbuilt_of setup ≡ None → slice_get (script_of setup hart) at ≡ Some line → is_built line ≡ true
+line_built setup hart at line none here =
+    built_in (slice_get setup.lines hart) at line
+    (λ lines is. each_holds (list_all is_built) setup.lines hart lines (each_joined is_built setup.lines (all_built (joined setup.lines) none)) is) here
+
+-- ---- all lines are answered
+
+module _ (digest_of : List ℕ → List ℕ) (w : WorldData) (k : Kept digest_of w) where
+  past_count : (actor : ℕ) → w.setup.harts + 1 ≤ actor → answered_at w.answered actor ≡ line_count w.setup actor
+  past_count actor past =
+      let none : answered_at w.answered actor ≡ 0 = ap (λ o. unwrap_or o 0) (slice_get_past w.answered actor (let n : length w.answered ≡ w.setup.harts + 1 = k.sizes.actors in omega arith)) in
+      let no_script : script_of w.setup actor ≡ [] = ap (λ o. unwrap_or o []) (slice_get_past w.setup.lines actor (let n : length w.setup.lines ≡ w.setup.harts = k.sizes.rules.scripts in omega arith)) in
+      let other : eqb actor w.setup.harts ≡ false = grind (arith, nat_tests) in
+      none ∙ sym (ap (λ b. if b then length w.setup.attacker else length (script_of w.setup actor)) other ∙ ap length no_script)
+
+  count_reached : all_answered w ≡ true → (actor : ℕ) → answered_at w.answered actor ≡ line_count w.setup actor
+  count_reached all actor = elim (cases_lt actor (w.setup.harts + 1)) [
+    | inl below ↦ eqb-true (answered_at w.answered actor) (line_count w.setup actor)
+        (in_range (λ a. eqb (answered_at w.answered a) (line_count w.setup a)) 0 (w.setup.harts + 1) actor all (omega arith) (let b : actor < w.setup.harts + 1 = below in omega arith))
+    | inr past ↦ past_count actor past
+  ]
+
+  answered_all : all_answered w ≡ true → AllAnswered w.setup w.history.bytes w.history.entries
+  answered_all all actor = ap (λ (p : Progress). p.answered) (k.stands.progress actor) ∙ count_reached all actor
+
+  -- ---- nobody moves
+
+  waiting : (count done : ℕ) (event : Event) (actor : ℕ) (b : Bool) → leb count done ≡ b
+      → is_still (turned_by (if b then moves event else rests (turned.Blocked (wait.After actor count)))) ≡ true → done < count
+  waiting count done event actor true is still = absurd (false≢true still)
+  waiting count done event actor false is still = grind (arith, nat_tests)
+
+  module _ (hart : ℕ) where
+    abbrev Standing : Line → Under → Type 0
+    Standing line under = LineUnderWay w.setup (written_page w) (enclave_at w.enclaves) (state_of w).number hart (Some line) under
+
+    abbrev Still : Line → Under → Type 0
+    Still line under = is_still (turned_by (due digest_of w hart [] line under)) ≡ true
+
+    blocked : (line : Line) (under : Under) → under_at w.under hart ≡ under → is_built line ≡ true → Standing line under → Still line under → IsBlocked w hart line
+    blocked (Create e image pages) Idle so_far built standing still = absurd (false≢true still)
+    blocked (Create e image pages) (Putting done) so_far built standing still = absurd (false≢true still)
+    blocked (Create e image pages) (Running micro count) so_far built standing still = absurd standing
+    blocked (Run e budget) Idle so_far built standing still = absurd (false≢true still)
+    blocked (Run e budget) (Putting done) so_far built standing still = absurd standing
+    blocked (Run e budget) (Running micro count) so_far built standing still = absurd (false≢true still)
+    blocked (Resume e budget) Idle so_far built standing still = absurd (false≢true still)
+    blocked (Resume e budget) (Putting done) so_far built standing still = absurd standing
+    blocked (Resume e budget) (Running micro count) so_far built standing still = absurd (false≢true still)
+    blocked (Send e word) Idle so_far built standing still = absurd (false≢true still)
+    blocked (Send e word) (Putting done) so_far built standing still = absurd standing
+    blocked (Send e word) (Running micro count) so_far built standing still = absurd standing
+    blocked (Take e) Idle so_far built standing still = absurd (false≢true still)
+    blocked (Take e) (Putting done) so_far built standing still = absurd standing
+    blocked (Take e) (Running micro count) so_far built standing still = absurd standing
+    blocked (After actor count) Idle so_far built standing still =
+        record { actor = actor; count = count; line_is = refl; idle = so_far; few = waiting count (answered_at w.answered actor) _ actor (leb count (answered_at w.answered actor)) refl still }
+    blocked (After actor count) (Putting done) so_far built standing still = absurd standing
+    blocked (After actor count) (Running micro done) so_far built standing still = absurd standing
+    blocked (Load va) under so_far built standing still = absurd (false≢true built)
+    blocked (Store va word) under so_far built standing still = absurd (false≢true built)
+    blocked (Map va page perms) under so_far built standing still = absurd (false≢true built)
+    blocked (Unmap va) under so_far built standing still = absurd (false≢true built)
+    blocked (Shadow e image pages) under so_far built standing still = absurd (false≢true built)
+    blocked (Fork s e pages) under so_far built standing still = absurd (false≢true built)
+    blocked (Grant e page) under so_far built standing still = absurd (false≢true built)
+    blocked (Destroy e) under so_far built standing still = absurd (false≢true built)
+    blocked (Drop s) under so_far built standing still = absurd (false≢true built)
+
+    hart_blocked : (line : Line) → hart_line w hart ≡ Some line → is_still (turned_by (hart_turn digest_of w hart [] (hart_line w hart))) ≡ true → IsBlocked w hart line
+    hart_blocked line here still =
+        blocked line (under_at w.under hart) refl (line_built w.setup hart (answered_at w.answered hart) line k.sizes.built here)
+        (subst (λ l. LineUnderWay w.setup (written_page w) (enclave_at w.enclaves) (state_of w).number hart l (under_at w.under hart)) here (k.stands.lines hart))
+        (subst (λ l. is_still (turned_by (hart_turn digest_of w hart [] l)) ≡ true) here still)
+
+  attack_blocked : (line : AttackLine) → is_still (turned_by (attacker_turn digest_of w (Some line))) ≡ true → IsAttackBlocked w line
+  attack_blocked (attack.After actor count) still =
+      record { actor = actor; count = count; line_is = refl; few = waiting count (answered_at w.answered actor) _ actor (leb count (answered_at w.answered actor)) refl still }
+  attack_blocked (attack.Write pa bytes) still = absurd (false≢true still)
+  attack_blocked (attack.Keep name pa len) still = absurd (false≢true still)
+  attack_blocked (attack.Back name) still = absurd (false≢true still)
+
+  abbrev still_actor : Actor → Bool
+  still_actor actor = is_still (turned_by (actor_turn digest_of w actor []))
+
+  nobody : nobody_moves digest_of w ≡ true → w.collision ≡ None → all_answered w ≡ false → IsStuck w
+  nobody still none some =
+      let first = and_parts (list_all still_actor (hart_turns w.setup.harts)) (list_all still_actor (acknowledgements w.setup.harts ++ Attacker ∷ []))
+      (sym (list_all-append still_actor (hart_turns w.setup.harts) (acknowledgements w.setup.harts ++ Attacker ∷ [])) ∙ still) in
+      let harts : list_all (λ h. still_actor (Hart (record { 0 = h }))) (range_with_len 0 w.setup.harts) ≡ true
+      = sym (list_all-map still_actor (λ h. Hart (record { 0 = h })) (range_with_len 0 w.setup.harts)) ∙ first.0 in
+      let last = and_parts (list_all still_actor (acknowledgements w.setup.harts)) (list_all still_actor (Attacker ∷ []))
+      (sym (list_all-append still_actor (acknowledgements w.setup.harts) (Attacker ∷ [])) ∙ first.1) in
+      let attacker : still_actor Attacker ≡ true = (and_parts (still_actor Attacker) true last.1).0 in
+      record {
+        none = none;
+        some = some;
+        harts = λ hart line below here. hart_blocked hart line here (in_range (λ h. still_actor (Hart (record { 0 = h }))) 0 w.setup.harts hart harts (omega arith) (omega arith));
+        attacker = λ line here. attack_blocked line (subst (λ l. is_still (turned_by (attacker_turn digest_of w l)) ≡ true) here attacker);
+      }
+
+  -- ---- the run is over
+
+  ends_some : (o : Option CollisionData) → w.collision ≡ o → (answered still : Bool) → all_answered w ≡ answered → nobody_moves digest_of w ≡ still → (end : Finished)
+      → (if is_some o then Some finished.Collision else if answered then Some finished.Done else if still then Some finished.Stuck else None) ≡ Some end → EndsBy digest_of end w
+  ends_some (Some c) is answered still all nobody_does finished.Collision over =
+      record { collision = c; kept = is; is = subst (CollisionStands digest_of w.setup.zones (state_of w).attacks) is k.collision }
+  ends_some (Some c) is answered still all nobody_does finished.Done over = cc
+  ends_some (Some c) is answered still all nobody_does finished.Stuck over = cc
+  ends_some None is true still all nobody_does finished.Done over = record { answered = answered_all all; none = is }
+  ends_some None is true still all nobody_does finished.Collision over = cc
+  ends_some None is true still all nobody_does finished.Stuck over = cc
+  ends_some None is false true all nobody_does finished.Stuck over = nobody nobody_does is all
+  ends_some None is false true all nobody_does finished.Done over = cc
+  ends_some None is false true all nobody_does finished.Collision over = cc
+  ends_some None is false false all nobody_does end over = cc
+
+  pub ends_by : (end : Finished) → over_of digest_of w ≡ Some end → EndsBy digest_of end w
+  unfolding over_of
+  ends_by end over = ends_some w.collision refl (all_answered w) (nobody_moves digest_of w) refl refl end over

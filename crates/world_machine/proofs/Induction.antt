@@ -1,0 +1,130 @@
+-- Each step keeps what a world keeps, and so do steps in turn.
+use Rattle.std.proofs.Common.{◌≡◌, ℕ, ◌<◌, ◌≤◌, leb, Bool, true, false, if◌then◌else◌, List, [], ◌∷◌, length, Option, Some, None, is_some, refl, sym, ap, subst, arith}
+use Rattle.std.specs.Prelude.{IsTrue}
+use Rattle.std.proofs.lemmas.Bool.Decides.{nat_tests}
+use Rattle.pl_base.specs.declared.actor.Actor.{Actor}
+use Rattle.pl_base.specs.declared.actor.Actor.TheVariants as actor_is
+use Rattle.mem_ctl.specs.Laws.{CallsTell}
+use Rattle.mem_ctl.proofs.TellLaws.{calls_tell}
+use Rattle.pl_history.specs.declared.answer.Answer.TheVariants as answer_is
+use Rattle.pl_history.specs.declared.line.AttackLine.{AttackLine}
+use Rattle.pl_history.specs.declared.line.AttackLine.TheVariants as attack
+use Rattle.pl_history.specs.declared.line.Line.{Line}
+use Rattle.pl_history.specs.declared.line.Line.TheVariants.{Create, Run, Resume, Send, Take, After}
+use Rattle.pl_history.specs.Legal.{AllowedAnswer}
+use Rattle.pl_history.specs.Monitor.{Progress}
+use Rattle.pl_history.specs.Rules.{is_actor, names_known}
+use Rattle.world_attack.proofs.RoomLemmas.{room_stays}
+use Rattle.world_machine.specs.declared.under.Under.{Under}
+use Rattle.world_machine.specs.declared.under.Under.TheVariants.{Idle, Putting, Running}
+use Rattle.world_machine.specs.Answering.{answers, quiet}
+use Rattle.world_machine.specs.RecordsAgree.{is_begun}
+use Rattle.world_machine.specs.Standing.{Kept, state_of}
+use Rattle.world_machine.specs.Steps.{AllFit, AnyAnswer, Fits, Step, Turn, actor_turn, attacker_turn, counted, due, hart_turn, moves, replay_from, rests, stepped, turn_of, world_after}
+use Rattle.world_machine.specs.Worlds.{CollisionData, WorldData, answered_at, attacker_line, hart_line, under_at}
+use Rattle.world_machine.proofs.AttackRows.{attacker_waited_kept, attacks_kept}
+use Rattle.world_machine.proofs.BeginRunRows.{begin_run_kept}
+use Rattle.world_machine.proofs.CreateRows.{begin_create_kept}
+use Rattle.world_machine.proofs.PutRows.{put_next_kept}
+use Rattle.world_machine.proofs.QuietRows.{answers_kept}
+use Rattle.world_machine.proofs.RunEvents.{runs_kept}
+use Rattle.world_machine.proofs.SetupFacts.{line_names}
+use Rattle.world_machine.proofs.WordRows.{send_kept, take_kept}
+
+-- counting a move changes no part
+counted_kept : (digest_of : List ℕ → List ℕ) (w : WorldData) → Kept digest_of w → Kept digest_of (counted w)
+counted_kept digest_of w k = record {
+  sizes = k.sizes;
+  trees = k.trees;
+  legal = k.legal;
+  parts = k.parts;
+  room = k.room;
+  stands = record {
+    owners = k.stands.owners;
+    records = k.stands.records;
+    progress = k.stands.progress;
+    enclaves = k.stands.enclaves;
+    host = k.stands.host;
+    attacks = k.stands.attacks;
+    lines = k.stands.lines;
+    apart = k.stands.apart;
+  };
+  collision = k.collision;
+}
+
+-- a turn that moves leaves a world that keeps all parts
+abbrev KeptTurn : (List ℕ → List ℕ) → Turn → Type 0
+KeptTurn digest_of (moves event) = Kept digest_of event.world
+KeptTurn digest_of (rests why) = Unit {0}
+
+waits_kept : (digest_of : List ℕ → List ℕ) (w : WorldData) (actor count : ℕ) (done : Rattle.world_machine.specs.Worlds.Event) (b : Bool)
+    → leb count (answered_at w.answered actor) ≡ b → (count ≤ answered_at w.answered actor → Kept digest_of done.world)
+    → KeptTurn digest_of (if b then moves done else rests (Rattle.world_machine.specs.declared.turned.Turned.TheVariants.Blocked (Rattle.world_machine.specs.declared.turned.Wait.TheVariants.After actor count)))
+waits_kept digest_of w actor count done true is kept = kept (grind (arith, nat_tests))
+waits_kept digest_of w actor count done false is kept = tt
+
+module _ (digest_of : List ℕ → List ℕ) (law : (m : List ℕ) → length (digest_of m) ≡ 32) (w : WorldData) (k : Kept digest_of w) (none : w.collision ≡ None) where
+  tells : CallsTell digest_of
+  tells = calls_tell digest_of law
+
+  module _ (hart : ℕ) (below : hart < w.setup.harts) (positions : List ℕ) where
+    number_there : (line : Line) (e : ℕ) → hart_line w hart ≡ Some line → (names_known w.setup.enclaves (length w.setup.images) line ≡ true → e < w.setup.enclaves) → e < length w.enclaves
+    number_there line e here names =
+        let few : e < w.setup.enclaves = names (line_names w.setup hart (answered_at w.answered hart) line k.sizes.rules here) in
+        let size : length w.enclaves ≡ w.setup.enclaves = k.sizes.numbers in
+        omega arith
+
+    -- one clause a row
+    due_kept : (line : Line) (under : Under) → hart_line w hart ≡ Some line → under_at w.under hart ≡ under → KeptTurn digest_of (due digest_of w hart positions line under)
+    due_kept (Create e image pages) Idle here so_far = begin_create_kept digest_of room_stays w k none hart below e image pages here so_far
+    due_kept (Create e image pages) (Putting done) here so_far = put_next_kept digest_of tells.page_writes room_stays w k none hart below positions e image pages done here so_far
+    due_kept (Run e budget) Idle here so_far = begin_run_kept digest_of room_stays w k none hart below so_far true e budget here
+    due_kept (Run e budget) (Running micro count) here so_far = runs_kept digest_of tells room_stays w k none hart below true e budget micro count here so_far (number_there (Run e budget) e.0 here (λ is. grind (arith, nat_tests))) positions
+    due_kept (Resume e budget) Idle here so_far = begin_run_kept digest_of room_stays w k none hart below so_far false e budget here
+    due_kept (Resume e budget) (Running micro count) here so_far = runs_kept digest_of tells room_stays w k none hart below false e budget micro count here so_far (number_there (Resume e budget) e.0 here (λ is. grind (arith, nat_tests))) positions
+    due_kept (Send e word) Idle here so_far = send_kept digest_of room_stays w k none hart below so_far e (number_there (Send e word) e.0 here (λ is. grind (arith, nat_tests))) word here
+    due_kept (Take e) Idle here so_far = take_kept digest_of room_stays w k none hart below so_far e (number_there (Take e) e.0 here (λ is. grind (arith, nat_tests))) here
+    due_kept (After actor count) Idle here so_far =
+        waits_kept digest_of w actor count (quiet (answers w hart answer_is.Ok)) (leb count (answered_at w.answered actor)) refl
+        (λ enough. answers_kept digest_of room_stays w k none hart below (After actor count) answer_is.Ok refl here
+        (subst (λ b. AllowedAnswer w.setup (state_of w) (After actor count) b answer_is.Ok) (sym (ap is_begun so_far))
+        (subst (λ n. count ≤ n) (sym (ap (λ (p : Progress). p.answered) (k.stands.progress actor))) enough))
+        refl)
+    due_kept line under here so_far = tt
+
+    hart_kept : (line : Option Line) → hart_line w hart ≡ line → KeptTurn digest_of (hart_turn digest_of w hart positions line)
+    hart_kept None here = tt
+    hart_kept (Some line) here = due_kept line (under_at w.under hart) here refl
+
+  attacker_kept : (line : Option AttackLine) → attacker_line w ≡ line → KeptTurn digest_of (attacker_turn digest_of w line)
+  attacker_kept None here = tt
+  attacker_kept (Some (attack.After actor count)) here =
+      waits_kept digest_of w actor count _ (leb count (answered_at w.answered actor)) refl (λ enough. attacker_waited_kept digest_of room_stays w k none actor count here enough)
+  attacker_kept (Some (attack.Write pa bytes)) here = attacks_kept digest_of room_stays w k none (attack.Write pa bytes) here refl
+  attacker_kept (Some (attack.Keep name pa len)) here = attacks_kept digest_of room_stays w k none (attack.Keep name pa len) here refl
+  attacker_kept (Some (attack.Back name)) here = attacks_kept digest_of room_stays w k none (attack.Back name) here refl
+
+  actor_kept : (actor : Actor) (positions : List ℕ) → IsTrue (is_actor w.setup.harts actor) → KeptTurn digest_of (actor_turn digest_of w actor positions)
+  actor_kept (actor_is.Hart h) positions there = hart_kept h.0 (grind (arith, nat_tests)) positions (hart_line w h.0) refl
+  actor_kept (actor_is.Ack h) positions there = tt
+  actor_kept actor_is.Attacker positions there = attacker_kept (attacker_line w) refl
+
+after_kept : (digest_of : List ℕ → List ℕ) (w : WorldData) (turn : Turn) → Kept digest_of w → KeptTurn digest_of turn → Kept digest_of (world_after w turn)
+after_kept digest_of w (moves event) k t = counted_kept digest_of event.world t
+after_kept digest_of w (rests why) k t = k
+
+turn_kept : (digest_of : List ℕ → List ℕ) (law : (m : List ℕ) → length (digest_of m) ≡ 32) (w : WorldData) (o : Option CollisionData) → w.collision ≡ o → Kept digest_of w
+    → (actor : Actor) (positions : List ℕ) → IsTrue (is_actor w.setup.harts actor)
+    → KeptTurn digest_of (if is_some o then rests Rattle.world_machine.specs.declared.turned.Turned.TheVariants.Halted else actor_turn digest_of w actor positions)
+turn_kept digest_of law w None is k actor positions there = actor_kept digest_of law w k is actor positions there
+turn_kept digest_of law w (Some c) is k actor positions there = tt
+
+pub step_kept : (digest_of : List ℕ → List ℕ) (law : (m : List ℕ) → length (digest_of m) ≡ 32) (gives : List Rattle.mem_slots.specs.declared.slot_use.SlotUse.SlotUse → ℕ → Type 0)
+    (w : WorldData) (step : Step) → Kept digest_of w → Fits digest_of gives w step → Kept digest_of (stepped digest_of w step)
+unfolding stepped turn_of
+step_kept digest_of law gives w step k fits = after_kept digest_of w _ k (turn_kept digest_of law w w.collision refl k step.actor step.positions fits.actor)
+
+pub replay_kept : (digest_of : List ℕ → List ℕ) (law : (m : List ℕ) → length (digest_of m) ≡ 32) (w : WorldData) (steps : List Step) → Kept digest_of w → AllFit digest_of w steps
+    → Kept digest_of (replay_from digest_of w steps)
+replay_kept digest_of law w [] k fit = k
+replay_kept digest_of law w (step ∷ steps) k fit = replay_kept digest_of law (stepped digest_of w step) steps (step_kept digest_of law AnyAnswer w step k fit.0) fit.1

@@ -1,0 +1,165 @@
+-- Each turn that moves leaves less to do: no run goes on for ever.
+use Rattle.std.proofs.Common.{◌≡◌, ℕ, zero, suc, ◌+◌, ◌-◌, ◌<◌, ◌≤◌, leb, Bool, true, false, if◌then◌else◌, List, length, sum_by, Option, Some, None, is_some, refl, sym, ap, ◌∙◌, subst, arith}
+use Rattle.std.specs.Prelude.{slice_set, IsTrue}
+use Rattle.std.specs.List.{range_with_len}
+use Rattle.std.proofs.lemmas.Bool.{false≢true}
+use Rattle.std.proofs.lemmas.Bool.Decides.{nat_tests}
+use Rattle.std.proofs.lemmas.List.Sums.{sum_by-cons}
+use Rattle.std.proofs.lemmas.Option.{slice_get_within}
+use Rattle.pl_base.specs.declared.actor.Actor.{Actor}
+use Rattle.pl_base.specs.declared.actor.Actor.TheVariants as actor_is
+use Rattle.pl_base.specs.declared.number.EncNo.{EncNo}
+use Rattle.mon_enclave.specs.Records.{enclave_at, send_refusal, take_refusal}
+use Rattle.mon_life.specs.Making.{CreateBegun, create_begun}
+use Rattle.mon_life.specs.Running.{RunBegun, run_begun}
+use Rattle.rv_hart.specs.declared.walks.Micro.TheVariants.{Fetching}
+use Rattle.rv_hart.specs.declared.walks.Walk.TheVariants.{Start}
+use Rattle.pl_history.specs.declared.answer.Answer.TheVariants as answer_is
+use Rattle.pl_history.specs.declared.line.AttackLine.{AttackLine}
+use Rattle.pl_history.specs.declared.line.AttackLine.TheVariants as attack
+use Rattle.pl_history.specs.declared.line.Line.{Line}
+use Rattle.pl_history.specs.declared.line.Line.TheVariants.{Create, Run, Resume, Send, Take, After}
+use Rattle.pl_history.specs.declared.setup.SetupParts.{SetupParts}
+use Rattle.pl_history.specs.Protection.{pmp_of}
+use Rattle.pl_history.specs.Rules.{is_actor}
+use Rattle.world_machine.specs.declared.turned.Turned.{Turned}
+use Rattle.world_machine.specs.declared.turned.Turned.TheVariants as turned
+use Rattle.world_machine.specs.declared.turned.Wait.TheVariants as wait
+use Rattle.world_machine.specs.declared.under.Under.{Under}
+use Rattle.world_machine.specs.declared.under.Under.TheVariants.{Idle, Putting, Running}
+use Rattle.world_machine.specs.Answering.{answers}
+use Rattle.world_machine.specs.Making.{image_of}
+use Rattle.world_machine.specs.Running.{begin_run}
+use Rattle.world_machine.specs.Runs.{attacker_left, hart_left, line_left, remaining}
+use Rattle.world_machine.specs.Standing.{Kept}
+use Rattle.world_machine.specs.Steps.{Step, Turn, actor_turn, attacker_turn, counted, due, hart_turn, moves, rests, stepped, turn_of, turned_by, world_after}
+use Rattle.world_machine.specs.Worlds.{CollisionData, Event, WorldData, answered_at, attacker_line, hart_line, under_at}
+use Rattle.world_machine.proofs.LessRows.{answer_less, begins_less, changes_less, put_less, run_less, running}
+use Rattle.world_machine.proofs.Lessens.{left_of}
+use Rattle.world_machine.proofs.Lists.{ChangedAt, changed_set}
+
+abbrev has_moved : Turned → Bool
+has_moved turned.Moved = true
+has_moved other = false
+
+-- a turn that moves leaves less, and one that doesn't isn't said to
+abbrev LessTurn : WorldData → Turn → Type 0
+LessTurn w (moves event) = remaining event.world < remaining w
+LessTurn w (rests why) = has_moved why ≡ false
+
+waits_less : (w : WorldData) (actor count : ℕ) (done : Event) (b : Bool) → remaining done.world < remaining w
+    → LessTurn w (if b then moves done else rests (turned.Blocked (wait.After actor count)))
+waits_less w actor count done true less = less
+waits_less w actor count done false less = refl
+
+-- one sum is at most another, where each term is
+sums_below : (f g : ℕ → ℕ) (from n : ℕ) → ((x : ℕ) → x < from + n → f x ≤ g x) → sum_by f (range_with_len from n) ≤ sum_by g (range_with_len from n)
+sums_below f g from zero each = omega arith
+sums_below f g from (suc n) each =
+    omega (
+      arith,
+      sum_by-cons f from (range_with_len (from + 1) n),
+      sum_by-cons g from (range_with_len (from + 1) n),
+      each from (omega arith),
+      sums_below f g (from + 1) n (λ x below. each x (omega arith)),
+    )
+
+module _ (digest_of : List ℕ → List ℕ) (w : WorldData) (k : Kept digest_of w) (none : w.collision ≡ None) where
+  module _ (hart : ℕ) (below : hart < w.setup.harts) (positions : List ℕ) where
+    create_less : (e : EncNo) (image : ℕ) (pages : List ℕ) → hart_line w hart ≡ Some (Create e image pages) → under_at w.under hart ≡ Idle
+        → LessTurn w (due digest_of w hart positions (Create e image pages) Idle)
+    create_less e image pages here idle =
+        let begun : CreateBegun = create_begun w.owners w.enclaves (pmp_of w.setup) e.0 image (image_of w.setup image) pages false in
+        begins_less digest_of w k none hart below (Create e image pages) here idle begun.refusal (record w { owners = begun.owners; enclaves = begun.enclaves }) (Putting 0)
+        refl none refl refl (omega arith)
+
+    begin_less : (first : Bool) (e : EncNo) (line : Line) → hart_line w hart ≡ Some line → under_at w.under hart ≡ Idle
+        → line_left w.setup (Some line) (Running (Fetching Start) 0) < line_left w.setup (Some line) Idle → remaining (begin_run w hart e.0 first).world < remaining w
+    begin_less first e line here idle less =
+        let begun : RunBegun = run_begun w.enclaves (record { 0 = hart }) e.0 first in
+        begins_less digest_of w k none hart below line here idle begun.refusal (record w { enclaves = begun.enclaves }) (Running (Fetching Start) 0) refl none refl refl less
+
+    -- one clause a row
+    due_less : (line : Line) (under : Under) → hart_line w hart ≡ Some line → under_at w.under hart ≡ under → LessTurn w (due digest_of w hart positions line under)
+    due_less (Create e image pages) Idle here so_far = create_less e image pages here so_far
+    due_less (Create e image pages) (Putting done) here so_far = put_less digest_of w k none hart below e image pages done here so_far positions
+    due_less (Run e budget) Idle here so_far = begin_less true e (Run e budget) here so_far (omega arith)
+    due_less (Run e budget) (Running micro count) here so_far =
+        run_less digest_of w k none hart below true e budget count micro here so_far positions _ (running digest_of w k none hart below true e budget count micro here so_far positions).instruction
+    due_less (Resume e budget) Idle here so_far = begin_less false e (Resume e budget) here so_far (omega arith)
+    due_less (Resume e budget) (Running micro count) here so_far =
+        run_less digest_of w k none hart below false e budget count micro here so_far positions _ (running digest_of w k none hart below false e budget count micro here so_far positions).instruction
+    due_less (Send e word) Idle here so_far =
+        changes_less digest_of w k none hart below (Send e word) here so_far (send_refusal (enclave_at w.enclaves e.0)) e.0 _ answer_is.Ok
+    due_less (Take e) Idle here so_far =
+        changes_less digest_of w k none hart below (Take e) here so_far (take_refusal (enclave_at w.enclaves e.0)) e.0 _ _
+    due_less (After actor count) Idle here so_far =
+        waits_less w actor count _ (leb count (answered_at w.answered actor)) (answer_less digest_of w k none hart below (After actor count) here so_far (answers w hart answer_is.Ok) refl none refl refl)
+    due_less line under here so_far = refl
+
+    hart_less : (line : Option Line) → hart_line w hart ≡ line → LessTurn w (hart_turn digest_of w hart positions line)
+    hart_less None here = refl
+    hart_less (Some line) here = due_less line (under_at w.under hart) here refl
+
+  -- ---- the attacker
+
+  module _ (line : AttackLine) (here : attacker_line w ≡ Some line) where
+    some_lines : answered_at w.answered w.setup.harts < length w.setup.attacker
+    some_lines = slice_get_within w.setup.attacker (answered_at w.answered w.setup.harts) line here
+
+    attacker_less : (v : WorldData) → v.setup ≡ w.setup → v.collision ≡ None → v.under ≡ w.under
+        → v.answered ≡ slice_set w.answered w.setup.harts (answered_at w.answered w.setup.harts + 1) → remaining v < remaining w
+    unfolding remaining
+    attacker_less v setup free under answered =
+        let changed : ChangedAt 0 w.answered v.answered w.setup.harts (answered_at w.answered w.setup.harts + 1)
+        = subst (λ xs. ChangedAt 0 w.answered xs w.setup.harts (answered_at w.answered w.setup.harts + 1)) (sym answered)
+        (changed_set 0 w.answered w.setup.harts (answered_at w.answered w.setup.harts + 1) (let n : length w.answered ≡ w.setup.harts + 1 = k.sizes.actors in omega arith)) in
+        let left : attacker_left v ≡ length w.setup.attacker - (answered_at w.answered w.setup.harts + 1)
+        = ap (λ (p : SetupParts). length p.attacker - answered_at v.answered p.harts) setup ∙ ap (λ n. length w.setup.attacker - n) changed.here in
+        let stays : (h : ℕ) → h < w.setup.harts → hart_left v h ≡ hart_left w h
+        = λ h few. ap (λ (p : SetupParts). left_of p h (under_at v.under h) (answered_at v.answered h)) setup
+        ∙ ap (λ us. left_of w.setup h (under_at us h) (answered_at v.answered h)) under
+        ∙ ap (left_of w.setup h (under_at w.under h)) (changed.others h (λ same. let s : h ≡ w.setup.harts = same in omega arith)) in
+        let sums : sum_by (hart_left v) (range_with_len 0 w.setup.harts) ≤ sum_by (hart_left w) (range_with_len 0 w.setup.harts)
+        = sums_below (hart_left v) (hart_left w) 0 w.setup.harts (λ h few. let s : hart_left v h ≡ hart_left w h = stays h (let f : h < 0 + w.setup.harts = few in omega arith) in omega arith) in
+        let new : remaining v ≡ sum_by (hart_left v) (range_with_len 0 v.setup.harts) + attacker_left v
+        = ap (λ o. if is_some o then 0 else sum_by (hart_left v) (range_with_len 0 v.setup.harts) + attacker_left v) free in
+        let same : sum_by (hart_left v) (range_with_len 0 v.setup.harts) ≡ sum_by (hart_left v) (range_with_len 0 w.setup.harts)
+        = ap (λ (p : SetupParts). sum_by (hart_left v) (range_with_len 0 p.harts)) setup in
+        let old : remaining w ≡ sum_by (hart_left w) (range_with_len 0 w.setup.harts) + attacker_left w
+        = ap (λ o. if is_some o then 0 else sum_by (hart_left w) (range_with_len 0 w.setup.harts) + attacker_left w) none in
+        let some : answered_at w.answered w.setup.harts < length w.setup.attacker = some_lines in
+        omega arith
+
+  attack_less : (line : Option AttackLine) → attacker_line w ≡ line → LessTurn w (attacker_turn digest_of w line)
+  attack_less None here = refl
+  attack_less (Some (attack.After actor count)) here =
+      waits_less w actor count _ (leb count (answered_at w.answered actor)) (attacker_less (attack.After actor count) here _ refl none refl refl)
+  attack_less (Some (attack.Write pa bytes)) here = attacker_less (attack.Write pa bytes) here _ refl none refl refl
+  attack_less (Some (attack.Keep name pa len)) here = attacker_less (attack.Keep name pa len) here _ refl none refl refl
+  attack_less (Some (attack.Back name)) here = attacker_less (attack.Back name) here _ refl none refl refl
+
+  actor_less : (actor : Actor) (positions : List ℕ) → IsTrue (is_actor w.setup.harts actor) → LessTurn w (actor_turn digest_of w actor positions)
+  actor_less (actor_is.Hart h) positions there = hart_less h.0 (grind (arith, nat_tests)) positions (hart_line w h.0) refl
+  actor_less (actor_is.Ack h) positions there = refl
+  actor_less actor_is.Attacker positions there = attack_less (attacker_line w) refl
+
+-- counting a move leaves as much
+counted_left : (v : WorldData) → remaining (counted v) ≡ remaining v
+unfolding remaining
+counted_left v = refl
+
+turn_less : (digest_of : List ℕ → List ℕ) (w : WorldData) (o : Option CollisionData) → w.collision ≡ o → Kept digest_of w → (actor : Actor) (positions : List ℕ) → IsTrue (is_actor w.setup.harts actor)
+    → LessTurn w (if is_some o then rests turned.Halted else actor_turn digest_of w actor positions)
+turn_less digest_of w None is k actor positions there = actor_less digest_of w k is actor positions there
+turn_less digest_of w (Some c) is k actor positions there = refl
+
+after_less : (w : WorldData) (turn : Turn) → LessTurn w turn → turned_by turn ≡ turned.Moved → remaining (world_after w turn) < remaining w
+after_less w (moves event) less moved = let c : remaining (counted event.world) ≡ remaining event.world = counted_left event.world in let l : remaining event.world < remaining w = less in omega arith
+after_less w (rests why) less moved = absurd (false≢true (sym less ∙ ap has_moved moved))
+
+-- an actor that moves leaves less
+pub steps_lessen : (digest_of : List ℕ → List ℕ) (w : WorldData) (step : Step) → Kept digest_of w → IsTrue (is_actor w.setup.harts step.actor)
+    → turned_by (turn_of digest_of w step.actor step.positions) ≡ turned.Moved → remaining (stepped digest_of w step) < remaining w
+unfolding stepped turn_of
+steps_lessen digest_of w step k there moved = after_less w _ (turn_less digest_of w w.collision refl k step.actor step.positions there) moved

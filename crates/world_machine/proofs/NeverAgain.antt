@@ -1,0 +1,89 @@
+-- An access within an event is never asked again: it answers a value, a fault or a collision.
+use Rattle.std.proofs.Common.{ℕ, ◌+◌, ◌/◌, ◌%◌, Bool, true, false, if◌then◌else◌, List, length}
+use Rattle.std.specs.Prelude.{nat_lt, ◌==◌}
+use Rattle.pl_base.specs.declared.place.Place.{Place}
+use Rattle.byteorder.specs.Endian.{little_bytes}
+use Rattle.mem_geom.specs.PathPlaces.{replaced_places, word_places}
+use Rattle.mem_slots.specs.Slots.{is_mounted, slot_at}
+use Rattle.mem_tree.specs.Checks.{Checked, Holds as AllHold, Fault as BreaksAt, Collision as CollidesAt}
+use Rattle.mem_ctl.specs.Calls.{accessed, put_page_of, read_word_of, with_page_at, with_part, write_part_of, zone_check}
+use Rattle.mem_ctl.specs.Data.{After, Again, Collision, CtlData, Fault, Going, Outcome, Value, answer, go_on, if_holds}
+use Rattle.mem_ctl.specs.Mounting.{asked, count_use, evicted, evicted_at, mounted_anew, mounted_for, mounted_last, position_of, root_check, taken}
+use Rattle.mem_ctl.specs.Writes.{word_at}
+use Rattle.mon_image.specs.declared.image.Image.{Image}
+use Rattle.mon_enclave.specs.declared.enclave.Enclave.{Enclave}
+use Rattle.mon_enclave.specs.Records.{enclave_at}
+use Rattle.mon_life.specs.Pages.{PagePut, page_put_at}
+use Rattle.mon_life.specs.Putting.{create_put, put_at, steps_of}
+
+abbrev pub NeverAgain : {A : Type 0} → Outcome A → Type 0
+NeverAgain (Value a) = Unit {0}
+NeverAgain (Fault place) = Unit {0}
+NeverAgain (Collision place held written) = Unit {0}
+NeverAgain (Again taken root) = ⊥
+
+checked_never : {A : Type 0} (c : Checked) (g : Going) (next : After A) → NeverAgain next.outcome → NeverAgain (if_holds c g next).outcome
+checked_never AllHold g next never = never
+checked_never (BreaksAt place) g next never = tt
+checked_never (CollidesAt place held written) g next never = tt
+
+then_never : {A : Type 0} {B : Type 0} (o : Outcome A) (g : Going) (next : A → Going → After B) → NeverAgain o → ((a : A) (h : Going) → NeverAgain (next a h).outcome) → NeverAgain (go_on o g next).outcome
+then_never (Value a) g next never after = after a g
+then_never (Fault place) g next never after = tt
+then_never (Collision place held written) g next never after = tt
+then_never (Again taken root) g next never after = absurd never
+
+either_never : {A : Type 0} (b : Bool) (x y : After A) → NeverAgain x.outcome → NeverAgain y.outcome → NeverAgain (if b then x else y).outcome
+either_never true x y p q = p
+either_never false x y p q = q
+
+module _ (digest_of : List ℕ → List ℕ) where
+  anew_never : (zone : ℕ) (g : Going) → NeverAgain (mounted_anew digest_of zone g).outcome
+  unfolding mounted_anew
+  anew_never zone g = checked_never {A = Unit {0}} (root_check digest_of g.ctl zone) g (answer tt (record g { ctl = mounted_last g.ctl zone })) tt
+
+  evicted_never : (g : Going) → NeverAgain (evicted digest_of g).outcome
+  unfolding evicted
+  evicted_never g = checked_never {A = Unit {0}} (root_check digest_of g.ctl (slot_at g.ctl.mounted (position_of g)).zone) (asked g)
+      (answer tt (record (asked g) { ctl = evicted_at digest_of g.ctl (position_of g) })) tt
+
+  evicted_first : (zone : ℕ) (g : Going) → NeverAgain (go_on (evicted digest_of g).outcome (evicted digest_of g).after (λ _ h. mounted_anew digest_of zone h)).outcome
+  evicted_first zone g = then_never {A = Unit {0}} {B = Unit {0}} (evicted digest_of g).outcome (evicted digest_of g).after (λ _ h. mounted_anew digest_of zone h)
+      (evicted_never g) (λ a h. anew_never zone h)
+
+  mounted_never : (zone : ℕ) (g : Going) → NeverAgain (mounted_for digest_of zone g).outcome
+  unfolding mounted_for
+  mounted_never zone g = either_never {A = Unit {0}} (is_mounted g.ctl.mounted zone) (answer tt g) _ tt
+      (either_never {A = Unit {0}} (nat_lt (length g.ctl.mounted) g.ctl.slots) (mounted_anew digest_of zone g) _ (anew_never zone g) (evicted_first zone g))
+
+  accessed_never : {A : Type 0} (page : ℕ) (places : List Place) (value : CtlData → A) (change : CtlData → CtlData) (g : Going) → NeverAgain (accessed digest_of page places value change g).outcome
+  accessed_never {A} page places value change g =
+      then_never {A = Unit {0}} {B = A} (mounted_for digest_of (page / 64) g).outcome (mounted_for digest_of (page / 64) g).after
+      (λ _ mounted. if_holds (zone_check digest_of (count_use (page / 64) mounted).ctl (page / 64) places) (count_use (page / 64) mounted)
+      (answer (value (count_use (page / 64) mounted).ctl) (record (count_use (page / 64) mounted) { ctl = change (count_use (page / 64) mounted).ctl })))
+      (mounted_never (page / 64) g)
+      (λ a mounted. checked_never {A = A} (zone_check digest_of (count_use (page / 64) mounted).ctl (page / 64) places) (count_use (page / 64) mounted)
+      (answer (value (count_use (page / 64) mounted).ctl) (record (count_use (page / 64) mounted) { ctl = change (count_use (page / 64) mounted).ctl })) tt)
+
+  pub read_never : (page offset : ℕ) (g : Going) → NeverAgain (read_word_of digest_of page offset g).outcome
+  unfolding read_word_of
+  read_never page offset g = accessed_never page (word_places page (offset / 64)) (λ x. word_at x.off_chip page offset) (λ x. x) g
+
+  pub write_never : (page offset width word : ℕ) (g : Going) → NeverAgain (write_part_of digest_of page offset width word g).outcome
+  unfolding write_part_of
+  write_never page offset width word g = accessed_never {A = Unit {0}} page (word_places page (offset / 64)) (λ x. tt)
+      (λ x. with_part digest_of (taken x) page (offset / 64) (offset % 64) (little_bytes width word) x) g
+
+  put_never : (page : ℕ) (bytes : List ℕ) (g : Going) → NeverAgain (put_page_of digest_of page bytes g).outcome
+  unfolding put_page_of
+  put_never page bytes g = accessed_never {A = Unit {0}} page (replaced_places page) (λ x. tt) (with_page_at digest_of page bytes) g
+
+  put_at_never : (put : PagePut) (last : Bool) (g : Going) → NeverAgain (put_at digest_of put last g).outcome
+  unfolding put_at
+  put_at_never put last g = then_never {A = Unit {0}} {B = Bool} (put_page_of digest_of put.page put.bytes g).outcome (put_page_of digest_of put.page put.bytes g).after
+      (λ _ h. answer last h) (put_never put.page put.bytes g) (λ a h. tt)
+
+  pub step_never : (tables e : ℕ) (image : Image) (shadow : Bool) (done : ℕ) (enclaves : List Enclave) (g : Going) → NeverAgain (create_put digest_of tables e image shadow done enclaves g).put.outcome
+  unfolding create_put
+  step_never tables e image shadow done enclaves g =
+      put_at_never (page_put_at tables e image (enclave_at enclaves e).pages done) (done + 1 == steps_of shadow (length image.pages)) g

@@ -1,0 +1,133 @@
+-- A read through the trees in a run under way: the world keeps what it kept, in the controller after it.
+use Rattle.std.proofs.Common.{◌≡◌, ℕ, ◌<◌, Bool, List, length, set, Some, None, refl, sym, ap, ◌∙◌, subst, arith, inr}
+use Rattle.std.proofs.lemmas.List.{set-get_or}
+use Rattle.std.proofs.lemmas.List.Elements.{All-weaker, recursion_from_All}
+use Rattle.std.proofs.lemmas.Option.{unwrap_or-slice_get}
+use Rattle.pl_base.specs.declared.number.EncNo.{EncNo}
+use Rattle.pl_base.specs.States.{is_free}
+use Rattle.mem_ctl.specs.Access.{BothStay, Leaves}
+use Rattle.mem_ctl.specs.Data.{CtlData}
+use Rattle.mem_geom.specs.Parts.{page_bytes}
+use Rattle.mon_enclave.specs.declared.enclave.Enclave.{Enclave}
+use Rattle.mon_enclave.specs.Records.{enclave_at, free_enclave, with_enclave}
+use Rattle.mon_image.specs.declared.page.ImagePage.{ImagePage}
+use Rattle.mon_owner.specs.declared.owners.Owner.{Owner}
+use Rattle.mon_owner.specs.declared.owners.Owner.TheVariants as owner_is
+use Rattle.mon_tables.specs.Tables.{table_number}
+use Rattle.rv_alone.specs.Flat.{fetched}
+use Rattle.rv_hart.specs.declared.walks.Micro.{Micro}
+use Rattle.rv_hart.specs.declared.walks.Micro.TheVariants.{Faulting, Fetching, Reaching}
+use Rattle.pl_history.specs.declared.setup.SetupParts.{SetupParts}
+use Rattle.pl_history.specs.Monitor.{Monitor, Number}
+use Rattle.world_attack.specs.Room.{RoomStays}
+use Rattle.world_machine.specs.declared.under.Under.TheVariants.{Running}
+use Rattle.world_machine.specs.BytesAgree.{HasPut}
+use Rattle.world_machine.specs.EnclavesAgree.{EnclaveStands, IsOwn}
+use Rattle.world_machine.specs.LinesUnderWay.{InstructionStands, IsRunning, LineUnderWay, number_under_way}
+use Rattle.world_machine.specs.Making.{image_of}
+use Rattle.world_machine.specs.Pages.{flat_pages, numbers_of}
+use Rattle.world_machine.specs.Standing.{Kept, state_of, written_page}
+use Rattle.world_machine.specs.Worlds.{WorldData, answered_at, hart_line, under_at}
+use Rattle.world_machine.proofs.Frames.{flat_pages-same}
+use Rattle.world_machine.proofs.LineKinds.{still_line}
+use Rattle.world_machine.proofs.Lists.{changed_set}
+use Rattle.world_machine.proofs.NumberRows.{becomes_same, but_none, owned_within}
+use Rattle.world_machine.proofs.RunMoves.{AfterAccess, is_running, no_put, run_line, run_moved, running_is, runs_number}
+
+-- an enclave whose pages have the bytes that they had
+pub stands_over : (setup : SetupParts) (before after : ℕ → List ℕ) (owners : List Owner) (e : ℕ) (r : Enclave) (n : Number) (s : EnclaveStands setup before owners e r n)
+    → flat_pages after s.image.pages (numbers_of r.pages) ≡ flat_pages before s.image.pages (numbers_of r.pages) → EnclaveStands setup after owners e r n
+stands_over setup before after owners e r n s same = record {
+  image = s.image;
+  image_is = s.image_is;
+  count = s.count;
+  own = s.own;
+  apart = s.apart;
+  owned = s.owned;
+  parent = s.parent;
+  now = s.now;
+  alone_is = s.alone_is;
+  context = s.context;
+  received = s.received;
+  out = s.out;
+  status = s.status;
+  aligned = s.aligned;
+  taken_few = s.taken_few;
+  shown_few = s.shown_few;
+  shown = s.shown;
+  pages = λ live. s.pages live ∙ sym same;
+  start = s.start;
+}
+
+instruction_over : (before after : ℕ → List ℕ) (image : List ImagePage) (r : Enclave) (micro : Micro) → flat_pages after image (numbers_of r.pages) ≡ flat_pages before image (numbers_of r.pages)
+    → InstructionStands image before r micro → InstructionStands image after r micro
+instruction_over before after image r (Fetching walk) same k = k
+instruction_over before after image r (Reaching word walk) same k = (k.0, ap (λ pages. fetched pages r.context.pc) same ∙ k.1, k.2)
+instruction_over before after image r (Faulting va kind) same k = k
+
+module _ (digest_of : List ℕ → List ℕ) (room_stays : RoomStays) (w : WorldData) (k : Kept digest_of w) (none : w.collision ≡ None) (hart : ℕ) (below : hart < w.setup.harts)
+    (first : Bool) (e : EncNo) (budget count : ℕ) (micro : Micro) (here : hart_line w hart ≡ Some (run_line first e budget)) (under : under_at w.under hart ≡ Running micro count)
+    (there : e.0 < length w.enclaves) (ctl : CtlData) (leaves : Leaves digest_of w.ctl ctl) (stay : BothStay w.ctl ctl) where
+  abbrev s : Monitor
+  s = state_of w
+
+  abbrev r : Enclave
+  r = enclave_at w.enclaves e.0
+
+  abbrev n : Number
+  n = s.number e.0
+
+  abbrev left : WorldData
+  left = record w { ctl = ctl }
+
+  running : IsRunning w.setup (written_page w) r n hart budget count micro
+  running = is_running w.setup (written_page w) (enclave_at w.enclaves) s.number hart budget count micro e first
+      (subst (LineUnderWay w.setup (written_page w) (enclave_at w.enclaves) s.number hart (Some (run_line first e budget))) under
+      (subst (λ l. LineUnderWay w.setup (written_page w) (enclave_at w.enclaves) s.number hart l (under_at w.under hart)) here (k.stands.lines hart)))
+
+  stands : EnclaveStands w.setup (written_page w) w.owners e.0 r n
+  stands = k.stands.enclaves e.0 (ap is_free running.state)
+
+  -- the number's pages have the bytes that they had
+  pub same_bytes : (image : List ImagePage) → flat_pages (page_bytes ctl.mirror) image (numbers_of r.pages) ≡ flat_pages (page_bytes w.ctl.mirror) image (numbers_of r.pages)
+  same_bytes image = flat_pages-same (page_bytes w.ctl.mirror) (page_bytes ctl.mirror) image (numbers_of r.pages)
+      (recursion_from_All (λ page. page_bytes ctl.mirror page ≡ page_bytes w.ctl.mirror page) (numbers_of r.pages)
+      (All-weaker (IsOwn w.owners e.0) (λ page. page_bytes ctl.mirror page ≡ page_bytes w.ctl.mirror page)
+      (λ page own. stay.mirror_pages page (owned_within digest_of w k page (owner_is.Enclave (record { 0 = e.0 })) own)) (numbers_of r.pages) stands.owned))
+
+  pub access : AfterAccess digest_of w e.0 ctl
+  access = record {
+    leaves = leaves;
+    page = table_number w.setup.tables e.0 0;
+    of_number = inr (0, omega arith, refl);
+    stay = but_none (table_number w.setup.tables e.0 0) w.ctl ctl stay;
+  }
+
+  running_left : IsRunning w.setup (page_bytes ctl.mirror) r n hart budget count micro
+  running_left = record {
+    state = running.state;
+    hart_is = running.hart_is;
+    within = running.within;
+    retired = running.retired;
+    instruction = instruction_over (written_page w) (page_bytes ctl.mirror) (image_of w.setup r.image).pages r micro (same_bytes (image_of w.setup r.image).pages) running.instruction;
+  }
+
+  same_records : with_enclave w.enclaves e.0 r ≡ w.enclaves
+  same_records = ap (set w.enclaves e.0) (unwrap_or-slice_get w.enclaves e.0 free_enclave) ∙ set-get_or w.enclaves e.0 free_enclave
+
+  own_line : LineUnderWay w.setup (page_bytes ctl.mirror) (enclave_at (with_enclave w.enclaves e.0 r)) s.number hart (hart_line w hart) (under_at w.under hart)
+  own_line = subst (λ l. LineUnderWay w.setup (page_bytes ctl.mirror) (enclave_at (with_enclave w.enclaves e.0 r)) s.number hart l (under_at w.under hart)) (sym here)
+      (subst (LineUnderWay w.setup (page_bytes ctl.mirror) (enclave_at (with_enclave w.enclaves e.0 r)) s.number hart (Some (run_line first e budget))) (sym under)
+      (running_is w.setup (page_bytes ctl.mirror) (enclave_at (with_enclave w.enclaves e.0 r)) s.number hart budget count micro e first
+      (subst (λ x. IsRunning w.setup (page_bytes ctl.mirror) x n hart budget count micro) (sym (changed_set free_enclave w.enclaves e.0 r there).here) running_left)))
+
+  under_way : number_under_way (hart_line w hart) (under_at w.under hart) ≡ Some e.0
+  under_way = ap (λ l. number_under_way l (under_at w.under hart)) here ∙ ap (number_under_way (Some (run_line first e budget))) under ∙ runs_number first e budget count micro
+
+  pub read_kept : Kept digest_of left
+  read_kept = subst (λ (all : List Enclave). Kept digest_of (record w { ctl = ctl; enclaves = all })) same_records
+      (run_moved digest_of w k none hart e.0 there under_way ctl access r n s (becomes_same s e.0) refl refl (k.stands.records e.0)
+      (stands_over w.setup (written_page w) (page_bytes ctl.mirror) w.owners e.0 r n stands (same_bytes stands.image.pages))
+      w.under w.answered w.history (under_at w.under hart) (answered_at w.answered hart) (still_line digest_of room_stays w k hart below) own_line
+      (λ f own. let h : Some f ≡ Some e.0 = sym own ∙ under_way in cc)
+      (λ page put. no_put first e budget count page micro (subst (λ u. HasPut (Some (run_line first e budget)) u page) under (subst (λ l. HasPut l (under_at w.under hart) page) here put))))

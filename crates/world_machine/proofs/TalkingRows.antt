@@ -1,0 +1,160 @@
+-- The rows of `send` and `take`.
+use Rattle.std.proofs.Common.{◌≡◌, ◌≢◌, ℕ, ◌+◌, ◌<◌, false, List, length, slice_get, Option, Some, None, refl, sym, ap, ◌∙◌, subst}
+use Rattle.std.specs.Prelude.{slice_set}
+use Rattle.pl_base.specs.States.{is_free}
+use Rattle.rv_hart.specs.declared.walks.Micro.{Micro}
+use Rattle.rv_hart.specs.declared.walks.Micro.TheVariants as micro_is
+use Rattle.rv_alone.specs.declared.step.Context.{Context}
+use Rattle.rv_alone.specs.Effect.{act_of}
+use Rattle.rv_alone.specs.Flat.{fetched}
+use Rattle.pl_base.specs.declared.number.HartNo.{HartNo}
+use Rattle.std.specs.Prelude.{IsTrue}
+use Rattle.mon_life.specs.Pages.{page_put_at}
+use Rattle.world_machine.specs.Pages.{flat_pages, numbers_of}
+use Rattle.mon_enclave.specs.declared.enclave.Enclave.{Enclave}
+use Rattle.mon_enclave.specs.Records.{enclave_at, free_enclave, with_enclave}
+use Rattle.pl_history.specs.declared.answer.Answer.{Answer}
+use Rattle.pl_history.specs.declared.line.Line.{Line}
+use Rattle.pl_history.specs.declared.line.Line.TheVariants.{Create, Run, Resume}
+use Rattle.pl_history.specs.declared.setup.SetupParts.{SetupParts}
+use Rattle.pl_history.specs.History.{part_end}
+use Rattle.pl_history.specs.Legal.{AllowedAnswer, after_answer}
+use Rattle.pl_history.specs.Monitor.{Monitor, Number, answer, script_of, with_number}
+use Rattle.world_attack.specs.Room.{RoomStays}
+use Rattle.world_machine.specs.declared.under.Under.{Under}
+use Rattle.world_machine.specs.declared.under.Under.TheVariants.{Idle, Putting, Running}
+use Rattle.world_machine.specs.Answering.{answers}
+use Rattle.world_machine.specs.BytesAgree.{HasPut}
+use Rattle.world_machine.specs.EnclavesAgree.{EnclaveStands}
+use Rattle.world_machine.specs.LinesUnderWay.{HasBytes, has_data, InstructionStands, IsRunning, LineUnderWay}
+use Rattle.world_machine.specs.Making.{image_of}
+use Rattle.world_machine.specs.RecordsAgree.{RecordAgrees, is_begun}
+use Rattle.world_machine.specs.Standing.{Kept, state_of, written_page}
+use Rattle.world_machine.specs.Worlds.{WorldData, answered_at, hart_line, under_at}
+use Rattle.world_machine.proofs.LineKinds.{answered_line}
+use Rattle.world_machine.proofs.Lists.{ChangedAt, changed_set, everywhere, if_other, if_same}
+use Rattle.world_machine.proofs.QuietRows.{attacks_live, idle_has_none, idle_put_none, none_some}
+use Rattle.world_machine.proofs.RowKept.{line_after, row_kept}
+
+-- a record that differs in the words sent to it, or in how many were taken, alone
+pub record SameButWords (r r' : Enclave) : Type 0 where
+  pub state : r'.state ≡ r.state
+  pub hart : r'.hart ≡ r.hart
+  pub image : r'.image ≡ r.image
+  pub pages : r'.pages ≡ r.pages
+  pub context : r'.context ≡ r.context
+  pub retired : r'.retired ≡ r.retired
+
+pub same_but_words : (r : Enclave) → SameButWords r r
+same_but_words r = record { state = refl; hart = refl; image = refl; pages = refl; context = refl; retired = refl }
+
+-- such a record keeps what holds of a line under way
+module _ (setup : SetupParts) (bytes : ℕ → List ℕ) (rec rec' : ℕ → Enclave) (number number' : ℕ → Number) (same : (f : ℕ) → SameButWords (rec f) (rec' f))
+    (retired : (f : ℕ) → (number' f).retired ≡ (number f).retired) where
+  instruction_words : (r r' : Enclave) (micro : Micro) → SameButWords r r' → InstructionStands (image_of setup r.image).pages bytes r micro
+      → InstructionStands (image_of setup r'.image).pages bytes r' micro
+  instruction_words r r' (micro_is.Fetching walk) w k = k
+  instruction_words r r' (micro_is.Reaching word walk) w k = (
+    k.0,
+    ap (λ n. fetched (flat_pages bytes (image_of setup n).pages (numbers_of r'.pages)) r'.context.pc) w.image
+        ∙ ap (λ p. fetched (flat_pages bytes (image_of setup r.image).pages (numbers_of p)) r'.context.pc) w.pages
+        ∙ ap (λ (c : Context). fetched (flat_pages bytes (image_of setup r.image).pages (numbers_of r.pages)) c.pc) w.context ∙ k.1,
+    subst (λ c. IsTrue (has_data (act_of c word))) (sym w.context) k.2,
+  )
+  instruction_words r r' (micro_is.Faulting va kind) w k = elim k [ ]
+
+  running_words : (f hart budget count : ℕ) (micro : Micro) → IsRunning setup bytes (rec f) (number f) hart budget count micro → IsRunning setup bytes (rec' f) (number' f) hart budget count micro
+  running_words f hart budget count micro k = record {
+    state = (same f).state ∙ k.state;
+    hart_is = ap (λ (h : HartNo). h.0) (same f).hart ∙ k.hart_is;
+    within = k.within;
+    retired = (same f).retired ∙ k.retired ∙ ap (λ n. n + count) (sym (retired f));
+    instruction = instruction_words (rec f) (rec' f) micro (same f) k.instruction;
+  }
+
+  pub line_words : (hart : ℕ) (line : Option Line) (under : Under) → LineUnderWay setup bytes rec number hart line under → LineUnderWay setup bytes rec' number' hart line under
+  line_words hart line Idle k = tt
+  line_words hart (Some (Create f image pages)) (Putting done) k = record {
+    state = (same f.0).state ∙ k.state;
+    image_is = (same f.0).image ∙ k.image_is;
+    pages_are = (same f.0).pages ∙ k.pages_are;
+    few = k.few;
+    put = λ at below. subst (λ p. HasBytes bytes (page_put_at setup.tables f.0 (image_of setup image) p at)) (sym (same f.0).pages) (k.put at below);
+  }
+  line_words hart (Some (Run f budget)) (Running micro count) k = running_words f.0 hart budget count micro k
+  line_words hart (Some (Resume f budget)) (Running micro count) k = running_words f.0 hart budget count micro k
+  line_words hart line under k = elim k [ ]
+
+module _ (digest_of : List ℕ → List ℕ) (room_stays : RoomStays) (w : WorldData) (k : Kept digest_of w) (none : w.collision ≡ None) (hart : ℕ) (below : hart < w.setup.harts)
+    (line : Line) (now : Answer) (no_part : part_end now ≡ 0) (here : hart_line w hart ≡ Some line)
+    (allowed : AllowedAnswer w.setup (state_of w) line (is_begun (under_at w.under hart)) now)
+    (e : ℕ) (there : e < length w.enclaves) (r : Enclave) (n : Number)
+    (gives : after_answer (state_of w) hart line now ≡ answer (with_number (state_of w) e n) hart)
+    (words : SameButWords (enclave_at w.enclaves e) r) (retired : n.retired ≡ ((state_of w).number e).retired) (live : n.live ≡ ((state_of w).number e).live)
+    (agrees : RecordAgrees r n)
+    (stands : is_free (enclave_at w.enclaves e).state ≡ false → EnclaveStands w.setup (written_page w) w.owners e r n) where
+  abbrev s : Monitor
+  s = state_of w
+
+  abbrev s' : Monitor
+  s' = answer (with_number s e n) hart
+
+  abbrev enclaves' : List Enclave
+  enclaves' = with_enclave w.enclaves e r
+
+  change : ChangedAt free_enclave w.enclaves enclaves' e r
+  change = changed_set free_enclave w.enclaves e r there
+
+  number_here : s'.number e ≡ n
+  number_here = if_same e n (s.number e)
+
+  number_other : (f : ℕ) → f ≢ e → s'.number f ≡ s.number f
+  number_other f other = if_other e f n (s.number f) other
+
+  all_words : (f : ℕ) → SameButWords (enclave_at w.enclaves f) (enclave_at enclaves' f)
+  all_words = everywhere (λ f. SameButWords (enclave_at w.enclaves f) (enclave_at enclaves' f)) e
+      (subst (SameButWords (enclave_at w.enclaves e)) (sym change.here) words)
+      (λ f other. subst (SameButWords (enclave_at w.enclaves f)) (sym (change.others f other)) (same_but_words (enclave_at w.enclaves f)))
+
+  all_retired : (f : ℕ) → (s'.number f).retired ≡ (s.number f).retired
+  all_retired = everywhere (λ f. (s'.number f).retired ≡ (s.number f).retired) e (ap (λ (m : Number). m.retired) number_here ∙ retired)
+      (λ f other. ap (λ (m : Number). m.retired) (number_other f other))
+
+  all_live : (f : ℕ) → (s'.number f).live ≡ (s.number f).live
+  all_live = everywhere (λ f. (s'.number f).live ≡ (s.number f).live) e (ap (λ (m : Number). m.live) number_here ∙ live)
+      (λ f other. ap (λ (m : Number). m.live) (number_other f other))
+
+  all_pages : (f : ℕ) → (s'.number f).pages ≡ (s.number f).pages
+  all_pages = everywhere (λ f. (s'.number f).pages ≡ (s.number f).pages) e
+      (ap (λ (m : Number). m.pages) number_here ∙ agrees.pages ∙ ap numbers_of words.pages ∙ sym (k.stands.records e).pages)
+      (λ f other. ap (λ (m : Number). m.pages) (number_other f other))
+
+  -- a record that took or was sent a word
+  pub words_kept : Kept digest_of (answers (record w { enclaves = with_enclave w.enclaves e r }) hart now)
+  words_kept =
+      let moves = answered_line digest_of room_stays w k hart below line now no_part here allowed (with_number s e n) (λ actor. refl) gives in
+      row_kept digest_of w hart w.ctl w.owners enclaves' _ _ _ s' Idle (answered_at w.answered hart + 1) k none (record {
+        line = moves;
+        sizes = record { zones = refl; slots = refl; pages = refl; guarded = λ page is. is; numbers = change.size };
+        trees = k.trees;
+        owners_agree = record { owner = k.stands.owners.owner; maps = k.stands.owners.maps };
+        records = everywhere (λ f. RecordAgrees (enclave_at enclaves' f) (s'.number f)) e
+            (subst (λ x. RecordAgrees x (s'.number e)) (sym change.here) (subst (RecordAgrees r) (sym number_here) agrees))
+            (λ f other. subst (λ x. RecordAgrees x (s'.number f)) (sym (change.others f other)) (subst (RecordAgrees (enclave_at w.enclaves f)) (sym (number_other f other)) (k.stands.records f)));
+        enclaves_agree = everywhere (λ f. is_free (enclave_at enclaves' f).state ≡ false → EnclaveStands w.setup (written_page w) w.owners f (enclave_at enclaves' f) (s'.number f)) e
+            (λ used. subst (λ x. EnclaveStands w.setup (written_page w) w.owners e x (s'.number e)) (sym change.here)
+            (subst (EnclaveStands w.setup (written_page w) w.owners e r) (sym number_here)
+            (stands (ap is_free (sym ((all_words e).state)) ∙ used))))
+            (λ f other used. subst (λ x. EnclaveStands w.setup (written_page w) w.owners f x (s'.number f)) (sym (change.others f other))
+            (subst (EnclaveStands w.setup (written_page w) w.owners f (enclave_at w.enclaves f)) (sym (number_other f other))
+            (k.stands.enclaves f (ap is_free (sym ((all_words f).state)) ∙ used))));
+        host = k.stands.host;
+        attacks = attacks_live w hart s' _ _ digest_of k refl all_live all_pages
+            (λ other differs. ap (slice_get (script_of w.setup other)) (moves.answered_change.others other differs))
+            moves.under_change.others
+            (λ page put. absurd (idle_put_none _ page (subst (λ u. HasPut (line_after w (slice_set w.answered hart (answered_at w.answered hart + 1)) hart) u page) moves.under_change.here put)));
+        other_lines = λ other differs. line_words w.setup (written_page w) (enclave_at w.enclaves) (enclave_at enclaves') s.number s'.number all_words all_retired other
+            (hart_line w other) (under_at w.under other) (k.stands.lines other);
+        own_line = tt;
+        own_apart = λ other f differs own there. none_some f _ (idle_has_none _) own;
+      })

@@ -1,0 +1,54 @@
+-- Each enclave number that isn't free is its image run alone.
+use Rattle.std.specs.Prelude.{◌≡◌, ℕ, ◌%◌, ◌≤◌, true, false, List, length, map, slice_get, take, Some, None}
+use Rattle.std.specs.List.{All}
+use Rattle.pl_base.specs.declared.state.State.{State}
+use Rattle.pl_base.specs.declared.state.State.TheVariants as state_is
+use Rattle.pl_base.specs.Pages.{first_twice}
+use Rattle.pl_base.specs.States.{is_free}
+use Rattle.rv_alone.specs.Alone.{alone, context_of}
+use Rattle.rv_alone.specs.Flat.{Flat, Status, on, start_of}
+use Rattle.mon_enclave.specs.declared.enclave.Enclave.{Enclave}
+use Rattle.mon_enclave.specs.declared.enclave.PageKind.TheVariants.{Own}
+use Rattle.mon_image.specs.declared.image.Image.{Image}
+use Rattle.mon_owner.specs.declared.owners.Owner.{Owner}
+use Rattle.mon_owner.specs.declared.owners.Owner.TheVariants as owner_is
+use Rattle.pl_history.specs.declared.setup.SetupParts.{SetupParts}
+use Rattle.pl_history.specs.Monitor.{Number, flat_image}
+use Rattle.pl_history.specs.Words.{sent_out}
+use Rattle.world_machine.specs.Pages.{flat_pages, numbers_of}
+
+-- an image that has ended runs no more; any other may go on
+abbrev pub StatusStands : State → Status → Type 0
+StatusStands state_is.Ended status = Unit {0}
+StatusStands state status = status ≡ on
+
+-- a page is this number's own
+abbrev pub IsOwn : List Owner → ℕ → ℕ → Type 0
+IsOwn owners e page = slice_get owners page ≡ Some (owner_is.Enclave (record { 0 = e }))
+
+-- The record is the state of its image run alone for as many instructions as it retired: registers, pc, received and sent out words. Where
+-- the number is live, its pages are its own, and have the state's bytes, as last written; where it isn't, the image hasn't begun.
+pub record EnclaveStands (setup : SetupParts) (bytes_of : ℕ → List ℕ) (owners : List Owner) (e : ℕ) (r : Enclave) (n : Number) : Type 0 where
+  pub image : Image
+  pub image_is : slice_get setup.images r.image ≡ Some image
+  pub count : length r.pages ≡ length image.pages
+  pub own : r.pages ≡ map Own (numbers_of r.pages)
+  pub apart : first_twice (numbers_of r.pages) ≡ None
+  pub owned : All (IsOwn owners e) (numbers_of r.pages)
+  pub parent : r.parent ≡ None
+  pub now : Flat
+  pub alone_is : alone (flat_image image) r.sent r.retired ≡ Some now
+  pub context : r.context ≡ context_of now
+  pub received : r.received ≡ now.received
+  pub out : r.out ≡ now.out
+  pub status : StatusStands r.state now.status
+  pub aligned : r.context.pc % 4 ≡ 0
+  pub taken_few : r.taken ≤ r.shown
+  pub shown_few : r.shown ≤ length r.out
+  pub shown : take r.shown r.out ≡ sent_out setup n
+  pub pages : n.live ≡ true → now.pages ≡ flat_pages bytes_of image.pages (numbers_of r.pages)
+  pub start : n.live ≡ false → now ≡ start_of (flat_image image)
+
+abbrev pub EnclavesAgree : SetupParts → (ℕ → List ℕ) → List Owner → (ℕ → Enclave) → (ℕ → Number) → Type 0
+EnclavesAgree setup bytes_of owners record_of number_of =
+    (e : ℕ) → is_free (record_of e).state ≡ false → EnclaveStands setup bytes_of owners e (record_of e) (number_of e)

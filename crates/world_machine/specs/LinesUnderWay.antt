@@ -1,0 +1,77 @@
+-- What holds of each hart's line that has begun, and that no two harts have one number under way.
+use Rattle.std.specs.Prelude.{◌≡◌, ℕ, ◌+◌, ◌<◌, Bool, true, false, IsTrue, List, length, map, Option, Some, None}
+use Rattle.pl_base.specs.declared.state.State.TheVariants as state_is
+use Rattle.rv_alone.specs.declared.step.Act.{Act}
+use Rattle.rv_alone.specs.declared.step.Act.TheVariants.{Load, Store}
+use Rattle.rv_alone.specs.Effect.{act_of}
+use Rattle.rv_alone.specs.Flat.{fetched}
+use Rattle.rv_hart.specs.declared.walks.Micro.{Micro}
+use Rattle.rv_hart.specs.declared.walks.Micro.TheVariants.{Fetching, Reaching, Faulting}
+use Rattle.rv_hart.specs.declared.walks.Walk.TheVariants.{Start}
+use Rattle.mon_enclave.specs.declared.enclave.Enclave.{Enclave}
+use Rattle.mon_enclave.specs.declared.enclave.PageKind.TheVariants.{Own}
+use Rattle.mon_image.specs.declared.page.ImagePage.{ImagePage}
+use Rattle.mon_life.specs.Pages.{PagePut, page_put_at}
+use Rattle.mon_life.specs.Putting.{steps_of}
+use Rattle.pl_history.specs.declared.line.Line.{Line}
+use Rattle.pl_history.specs.declared.line.Line.TheVariants.{Create, Run, Resume}
+use Rattle.pl_history.specs.declared.setup.SetupParts.{SetupParts}
+use Rattle.pl_history.specs.Monitor.{Number}
+use Rattle.world_machine.specs.declared.under.Under.{Under}
+use Rattle.world_machine.specs.declared.under.Under.TheVariants.{Idle, Putting, Running}
+use Rattle.world_machine.specs.Making.{image_of}
+use Rattle.world_machine.specs.Pages.{flat_pages, numbers_of}
+
+-- the number that a begun line has under way
+abbrev pub number_under_way : Option Line → Under → Option ℕ
+number_under_way (Some (Create e image pages)) (Putting done) = Some e.0
+number_under_way (Some (Run e budget)) (Running micro count) = Some e.0
+number_under_way (Some (Resume e budget)) (Running micro count) = Some e.0
+number_under_way line under = None
+
+-- no number is under way on two harts
+abbrev pub NumbersApart : (ℕ → Option ℕ) → Type 0
+NumbersApart under_way = (hart other e : ℕ) → under_way hart ≡ Some e → under_way other ≡ Some e → hart ≡ other
+
+-- a page that was put has its bytes
+abbrev pub HasBytes : (ℕ → List ℕ) → PagePut → Type 0
+HasBytes bytes_of put = bytes_of put.page ≡ put.bytes
+
+-- a number that is being made, of which so many steps are done: each page that they put has its bytes, as last written
+pub record IsPutting (setup : SetupParts) (bytes_of : ℕ → List ℕ) (r : Enclave) (e image : ℕ) (pages : List ℕ) (done : ℕ) : Type 0 where
+  pub state : r.state ≡ state_is.Building
+  pub image_is : r.image ≡ image
+  pub pages_are : r.pages ≡ map Own pages
+  pub few : done < steps_of false (length (image_of setup image).pages)
+  pub put : (at : ℕ) → at < done → HasBytes bytes_of (page_put_at setup.tables e (image_of setup image) r.pages at)
+
+-- an instruction that loads or stores
+abbrev pub has_data : Act → Bool
+has_data (Load address width is_signed rd) = true
+has_data (Store address width value) = true
+has_data act = false
+
+-- the next instruction: it isn't fetched, or it is the word at pc, and loads or stores
+abbrev pub InstructionStands : List ImagePage → (ℕ → List ℕ) → Enclave → Micro → Type 0
+InstructionStands image bytes_of r (Fetching walk) = walk ≡ Start
+InstructionStands image bytes_of r (Reaching word walk) =
+    (walk ≡ Start) × (fetched (flat_pages bytes_of image (numbers_of r.pages)) r.context.pc ≡ Some word) × IsTrue (has_data (act_of r.context word))
+InstructionStands image bytes_of r (Faulting va kind) = ⊥
+
+-- an enclave that runs on this hart, with budget left; so many instructions retired since the line began
+pub record IsRunning (setup : SetupParts) (bytes_of : ℕ → List ℕ) (r : Enclave) (n : Number) (hart budget count : ℕ) (micro : Micro) : Type 0 where
+  pub state : r.state ≡ state_is.On
+  pub hart_is : r.hart.0 ≡ hart
+  pub within : count < budget
+  pub retired : r.retired ≡ n.retired + count
+  pub instruction : InstructionStands (image_of setup r.image).pages bytes_of r micro
+
+-- what holds of a hart's line that is so far; a line that can't be so far isn't
+abbrev pub LineUnderWay : SetupParts → (ℕ → List ℕ) → (ℕ → Enclave) → (ℕ → Number) → ℕ → Option Line → Under → Type 0
+LineUnderWay setup bytes_of record_of number hart line Idle = Unit {0}
+LineUnderWay setup bytes_of record_of number hart (Some (Create e image pages)) (Putting done) = IsPutting setup bytes_of (record_of e.0) e.0 image pages done
+LineUnderWay setup bytes_of record_of number hart (Some (Run e budget)) (Running micro count) =
+    IsRunning setup bytes_of (record_of e.0) (number e.0) hart budget count micro
+LineUnderWay setup bytes_of record_of number hart (Some (Resume e budget)) (Running micro count) =
+    IsRunning setup bytes_of (record_of e.0) (number e.0) hart budget count micro
+LineUnderWay setup bytes_of record_of number hart line under = ⊥

@@ -1,0 +1,44 @@
+-- The pages of an enclave: the page of its record that an access goes to, and the parts of words.
+use Rattle.std.specs.Prelude.{ℕ, ◌*◌, ◌/◌, ◌%◌, ◌^◌, nat_le, if◌then◌else◌, List, [], ◌∷◌, map, slice_get, Option, Some, None}
+use Rattle.pl_base.specs.declared.access.Kind.{Kind}
+use Rattle.pl_base.specs.declared.access.Kind.TheVariants.{Fetch, Load, Store}
+use Rattle.pl_base.specs.declared.page.TheConstants.{IMAGE_START}
+use Rattle.pl_base.specs.Perms.{grants}
+use Rattle.mon_enclave.specs.declared.enclave.PageKind.{PageKind}
+use Rattle.mon_enclave.specs.Records.{page_number_of}
+use Rattle.mon_image.specs.declared.page.ImagePage.{ImagePage}
+use Rattle.rv_alone.specs.Flat.{Page, page_number}
+
+-- the numbers of an enclave's pages
+abbrev pub numbers_of : List PageKind → List ℕ
+numbers_of = map page_number_of
+
+-- the pages of an image as the flat machine has them, whose bytes are those of pages with these numbers
+abbrev pub flat_pages : (ℕ → List ℕ) → List ImagePage → List ℕ → List Page
+flat_pages bytes_of [] numbers = []
+flat_pages bytes_of (page ∷ image) [] = []
+flat_pages bytes_of (page ∷ image) (number ∷ numbers) = record { perms = page.perms; bytes = bytes_of number } ∷ flat_pages bytes_of image numbers
+
+-- the page with a page of the image, where that lets an access of a kind through
+abbrev pub page_for : Kind → Option ImagePage → Option ℕ → Option ℕ
+page_for kind None number = None
+page_for kind (Some page) number = if grants page.perms kind then number else None
+
+-- the page that an access goes to
+abbrev pub located : Kind → List ImagePage → List ℕ → ℕ → Option ℕ
+located kind image numbers address =
+    if nat_le IMAGE_START address then page_for kind (slice_get image (page_number address)) (slice_get numbers (page_number address)) else None
+
+-- the offset in its page of the eight bytes, at a multiple of 8, that hold a part at an address
+abbrev pub word_offset : ℕ → ℕ
+word_offset address = address % 4096 / 8 * 8
+
+-- a part of so many bytes at an address, of the eight bytes that hold it (little-endian)
+abbrev pub part_of_word : ℕ → ℕ → ℕ → ℕ
+part_of_word word address width = word / 2 ^ (8 * (address % 8)) % 2 ^ (8 * width)
+
+-- the cause of the trap where no page lets an access through (RISC-V Privileged Architecture, mcause: page faults)
+abbrev pub fault_cause : Kind → ℕ
+fault_cause Fetch = 12
+fault_cause Load = 13
+fault_cause Store = 15

@@ -1,0 +1,53 @@
+-- The world as plain data: the setup, the controller, the owners of pages, the records of enclave numbers, each hart's line under way, how
+-- many lines of each actor are answered, the history, the collision that is kept, and how many moves were made.
+use Rattle.std.specs.Prelude.{ℕ, List, slice_get, unwrap_or, Option}
+use Rattle.pl_base.specs.declared.place.Place.{Place}
+use Rattle.mem_ctl.specs.Data.{CtlData}
+use Rattle.mem_slots.specs.declared.slot_use.SlotUse.{SlotUse}
+use Rattle.mon_enclave.specs.declared.enclave.Enclave.{Enclave}
+use Rattle.mon_owner.specs.declared.owners.Owner.{Owner}
+use Rattle.pl_history.specs.declared.line.Line.{Line}
+use Rattle.pl_history.specs.declared.line.AttackLine.{AttackLine}
+use Rattle.pl_history.specs.declared.setup.SetupParts.{SetupParts}
+use Rattle.pl_history.specs.History.{HistoryData}
+use Rattle.pl_history.specs.Monitor.{script_of}
+use Rattle.world_machine.specs.declared.under.Under.{Under}
+use Rattle.world_machine.specs.declared.under.Under.TheVariants.{Idle}
+
+-- the bytes of a place as taken and as last written, unequal and of one digest
+pub record CollisionData : Type 0 where
+  pub place : Place
+  pub held : List ℕ
+  pub written : List ℕ
+
+pub record WorldData : Type 0 where
+  pub setup : SetupParts
+  pub ctl : CtlData
+  pub owners : List Owner
+  pub enclaves : List Enclave
+  pub under : List Under
+  pub answered : List ℕ
+  pub history : HistoryData
+  pub collision : Option CollisionData
+  pub moves : ℕ
+
+-- a world, and the lists of slots that its evictions were shown on the way to it
+pub record Event : Type 0 where
+  pub world : WorldData
+  pub shown : List (List SlotUse)
+
+-- how far a hart's line is
+abbrev pub under_at : List Under → ℕ → Under
+under_at under hart = unwrap_or (slice_get under hart) Idle
+
+-- how many lines of an actor are answered; the attacker is the actor after the last hart
+abbrev pub answered_at : List ℕ → ℕ → ℕ
+answered_at answered actor = unwrap_or (slice_get answered actor) 0
+
+-- the first line of a hart that isn't answered
+abbrev pub hart_line : WorldData → ℕ → Option Line
+hart_line w hart = slice_get (script_of w.setup hart) (answered_at w.answered hart)
+
+-- and of the attacker
+abbrev pub attacker_line : WorldData → Option AttackLine
+attacker_line w = slice_get w.setup.attacker (answered_at w.answered w.setup.harts)

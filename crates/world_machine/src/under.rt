@@ -1,0 +1,13 @@
+// How far a hart's line is.
+use rv_hart::Micro;
+
+/// How far the first line of a hart's script that isn't answered is.
+#[derive(Clone, Copy, PartialEq, Eq, Debug)]
+pub enum Under {
+    /// It hasn't begun.
+    Idle,
+    /// A number is being made: the steps that are done, a page each.
+    Putting { done: u32 },
+    /// An enclave runs: where its next instruction is, and how many retired since the line began.
+    Running { micro: Micro, count: u32 },
+}
