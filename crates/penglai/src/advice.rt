@@ -32,10 +32,14 @@ pub(crate) fn advise(rt: &impl Eprint, status: Status) -> io::Result<()> {
         Status::WriteFault => eprintln!(rt; "penglai: a write to standard output failed"),
         Status::NoMemory => eprintln!(rt; "penglai: memory ran out, and nothing was printed"),
         Status::Collision => {
-            eprintln!(rt; "penglai: two different byte strings with one digest were met, and the run broke off")
+            eprintln!(rt;
+                "penglai: two different byte strings with one digest were met, and the run broke off"
+            )
         }
         Status::Stuck => {
-            eprintln!(rt; "penglai: the run is stuck: each actor with lines left waits in an `after`")
+            eprintln!(rt;
+                "penglai: the run is stuck: each actor with lines left waits in an `after`"
+            )
         }
         Status::BadSetup { rule, item, cause } => {
             tell_rule(rt, rule, item)?;

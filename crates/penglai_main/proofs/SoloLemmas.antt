@@ -3,7 +3,6 @@ use Rattle.std.proofs.Common.{◌≡◌, ℕ, ◌+◌, ◌<◌, List, [], ◌∷
 use Rattle.std.specs.Prelude.{OnErr, OnOk}
 use Rattle.std.specs.Io.KnownBytes.{Appends}
 use Rattle.std.proofs.lemmas.List.{take_more}
-use Rattle.mem_slots.specs.declared.slot_use.SlotUse.{SlotUse}
 use Rattle.pl_base.specs.declared.actor.Actor.{Actor}
 use Rattle.pl_base.specs.declared.fault.Failed.{Failed as Fails}
 use Rattle.pl_history.specs.declared.setup.SetupParts.{SetupParts}

@@ -1,6 +1,5 @@
 -- What a run's status says of the whole call; what a command that runs nothing says doesn't depend on the rules that name the slot to evict.
-use Rattle.std.proofs.Common.{◌≡◌, ℕ, List, Ok, Err, inl, inr, refl, sym, ap, ◌∙◌, subst}
-use Rattle.std.specs.Prelude.{◌⊎◌}
+use Rattle.std.proofs.Common.{ℕ, List, Ok, Err, inl, inr, refl, sym, subst}
 use Rattle.sha2.specs.Sha256.{sha256}
 use Rattle.pl_history.specs.declared.setup.SetupParts.{SetupParts}
 use Rattle.pl_history.specs.declared.setup.ChoiceName.{ChoiceName}

@@ -13,8 +13,3 @@ pub use solo::{play, solo_with};
 pub use status::Status;
 pub use top::quick;
 pub use world_setup::RuleText;
-
-#[cfg(test)]
-mod setup_tests;
-#[cfg(test)]
-mod tests;

@@ -45,7 +45,8 @@ fn take_ordered_turns<D: Digester, F: Fn(&[SlotUse]) -> usize>(world: &mut World
 // The turns of the order, and then whole rounds until the run is over.
 fn run_out<D: Digester, F: Fn(&[SlotUse]) -> usize>(world: &mut World<D, F>) -> Finished
     requires { NamesPosition F.Fn world.old.1 }
-    ensures { Plays D.digest_of (FnReturnsAt F.Fn world.old.1) world.old.0 world.new.0 result }
+    ensures plays { Plays D.digest_of (FnReturnsAt F.Fn world.old.1) world.old.0 world.new.0 result }
+    ensures choice { world.new.1 ≡ world.old.1 }
 {
     take_ordered_turns(world);
     world.finish()
@@ -88,6 +89,7 @@ pub fn play<D: Digester, K: Sink, F: Fn(&[SlotUse]) -> usize>(
     requires opening { world.old.0 ≡ opening_world D.digest_of world.old.0.setup }
     requires choice { NamesPosition F.Fn world.old.1 }
     ensures played { PlayedTo D.digest_of (FnReturnsAt F.Fn world.old.1) world.old.0.setup world.new.0 (ends K.written K.faults sink.old sink.new) result }
+    ensures choice { world.new.1 ≡ world.old.1 }
     ensures later { Later (ends K.written K.faults sink.old sink.new) }
 {
     world.stands();

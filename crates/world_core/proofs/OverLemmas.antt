@@ -62,8 +62,8 @@ module _ (d : List ℕ → List ℕ) (w : WorldData) where
   attack_stills (attack_is.After actor count) = waiting_still w actor count _
   attack_stills attack_is.Line = refl
 
-  pub attacker_stills : (line : Attack) → line ≡ attack_of (attacker_line w) → attack_still w line ≡ attacker_still d w
-  attacker_stills line is =
+  pub attacker_stills : (now : Attack) → now ≡ attack_of (attacker_line w) → attack_still w now ≡ attacker_still d w
+  attacker_stills now is =
       ap (attack_still w) is ∙ sym (attack_stills (attack_of (attacker_line w))) ∙ ap (λ (t : Turn). is_still (turned_by t)) (attack_turn-line d w (attacker_line w))
 
   all_true : (xs : List ℕ) → list_all (λ (h : ℕ). true) xs ≡ true

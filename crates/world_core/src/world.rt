@@ -7,6 +7,7 @@ ghost use Rattle.pl_io.specs.Puts.{Puts};
 ghost use Rattle.world_core.specs.Report.{world_report};
 ghost use Rattle.mem_slots.specs.Slots.{use_of};
 ghost use Rattle.pl_history.specs.Rules.{is_actor};
+ghost use Rattle.world_machine.specs.Adding.{AnswersAtMostOne, answering, moves_after};
 ghost use Rattle.world_machine.specs.Reached.{Reached, opening_world};
 ghost use Rattle.world_core.specs.Parts.{collision_data};
 ghost use Rattle.world_machine.specs.Runs.{over_of};
@@ -66,13 +67,16 @@ impl<D: Digester, F: Drop> World<D, F> {
 }
 
 impl<D: Digester, F: Fn(&[SlotUse]) -> usize> World<D, F> {
-    /// An actor's turn: its next event, or why it makes none. Anything but `Moved` changes nothing. The hart, if it is one, is there.
+    /// An actor's turn: its next event, or why it makes none. Anything but `Moved` changes nothing. At most one answer joins the history, to
+    /// the actor's first line that isn't answered. The hart, if it is one, is there.
     pub fn turn(&mut self, actor: Actor) -> Turned
         requires actor { IsTrue (is_actor self.old.0.setup.harts actor) }
         requires choice { NamesPosition F.Fn self.old.1 }
         ensures step { StepOf D.digest_of (FnReturnsAt F.Fn self.old.1) self.old.0 actor self.new.0 }
         ensures turned { (positions : List ℕ) → result ≡ turned_by (turn_of D.digest_of self.old.0 actor positions) }
         ensures still { result ≢ Turned.Moved → self.new ≡ self.old }
+        ensures answer { AnswersAtMostOne self.old.0 (answering self.old.0.setup.harts actor) self.new.0 }
+        ensures moves { self.new.0.moves ≡ moves_after result self.old.0.moves }
         ensures choice { self.new.1 ≡ self.old.1 }
     {
         self.machine.turn(actor)

@@ -16,7 +16,7 @@ use Rattle.pl_base.specs.Perms.{grants}
 use Rattle.mon_image.specs.declared.page.ImagePage.{ImagePage}
 use Rattle.rv_alone.specs.Flat.{Page, page_number, number_in, page_with_number, permitted, fetched, read, stored}
 use Rattle.world_machine.specs.Pages.{flat_pages, page_for, located}
-use Rattle.world_machine.proofs.DistinctPages.{stands_once}
+use Rattle.pl_base.proofs.DistinctPages.{stands_once}
 
 -- a page of the image with its bytes
 abbrev pub joined : (ℕ → List ℕ) → Option ImagePage → Option ℕ → Option Page

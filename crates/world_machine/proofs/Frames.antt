@@ -28,7 +28,8 @@ use Rattle.world_machine.specs.Making.{image_of}
 use Rattle.world_machine.specs.Pages.{flat_pages, numbers_of}
 use Rattle.world_machine.specs.RecordsAgree.{RecordAgrees, RecordsAgree}
 use Rattle.world_machine.proofs.Lists.{everywhere}
-use Rattle.world_machine.proofs.PutPages.{image_page, puts_image, puts_table}
+use Rattle.mon_life.proofs.StepLemmas.{image_stands, tables_stand}
+use Rattle.world_machine.proofs.PutPages.{image_page}
 
 -- pages of which the listed ones have the same bytes
 pub flat_pages-same : (bytes bytes' : ℕ → List ℕ) (image : List ImagePage) (numbers : List ℕ) → AllByRecursion (λ page. bytes' page ≡ bytes page) numbers
@@ -108,11 +109,11 @@ module _ (setup : SetupParts) (e : ℕ) (rec rec' : ℕ → Enclave) (number num
         let below : at < length r.pages = grind (arith, nat_tests) in
         let inside : at < length (numbers_of r.pages) = subst (λ n. at < n) (sym (length-map r.pages page_number_of)) below in
         let page_is : (page_put_at setup.tables f image r.pages at).page ≡ get_or (numbers_of r.pages) at 0
-        = ap (λ (p : PagePut). p.page) (puts_image setup.tables f image r.pages at (grind (arith, nat_tests))) ∙ image_page setup.tables f image r.pages at below in
+        = ap (λ (p : PagePut). p.page) (image_stands setup.tables f image r.pages at (grind (arith, nat_tests))) ∙ image_page setup.tables f image r.pages at below in
         subst (λ page. bytes' page ≡ bytes page) (sym page_is) (frame.own_bytes f _ other (All-get_or (IsOwn owners f) (numbers_of r.pages) at 0 inside own))
     | inr past ↦
         let page_is : (page_put_at setup.tables f image r.pages at).page ≡ table_number setup.tables f (2 - (at - length image.pages))
-        = ap (λ (p : PagePut). p.page) (puts_table setup.tables f image r.pages at (grind (arith, nat_tests))) in
+        = ap (λ (p : PagePut). p.page) (tables_stand setup.tables f image r.pages at (grind (arith, nat_tests))) in
         subst (λ page. bytes' page ≡ bytes page) (sym page_is) (frame.table_bytes f (2 - (at - length image.pages)) other there (omega arith))
   ]
 

@@ -6,7 +6,6 @@ pub mod ByteBounds
 pub mod ChangedBytes
 pub mod CreateRefusals
 pub mod CreateRows
-pub mod DistinctPages
 pub mod Endings
 pub mod FlatPages
 pub mod Frames
@@ -26,6 +25,7 @@ pub mod Lists
 pub mod LiveEnclaves
 pub mod NeverAgain
 pub mod NumberRows
+pub mod OneAnswer
 pub mod Opening
 pub mod OwnersGiven
 pub mod PutPages

@@ -23,8 +23,9 @@ use Rattle.mon_tables.specs.Space.{first_vpn}
 use Rattle.mon_tables.specs.Tables.{leaf_of, leaf_words, number_table_bytes, pointing_words, table_number, table_words}
 use Rattle.world_machine.specs.EnclavesAgree.{IsOwn}
 use Rattle.world_machine.specs.Pages.{numbers_of}
-use Rattle.world_machine.proofs.DistinctPages.{stands_once}
-use Rattle.world_machine.proofs.PutPages.{image_page, puts_image, puts_table}
+use Rattle.pl_base.proofs.DistinctPages.{stands_once}
+use Rattle.mon_life.proofs.StepLemmas.{image_stands, tables_stand}
+use Rattle.world_machine.proofs.PutPages.{image_page}
 
 words_size : (words : List ℕ) → length (flat_map (little_bytes 8) words) ≡ 8 * length words
 words_size [] = refl
@@ -81,28 +82,28 @@ module _ (tables e : ℕ) (image : Image) (kinds : List PageKind) where
     | inl within ↦
         let below : at < length image.pages = ltb-true at (length image.pages) within in
         let here = stands_at image.pages at below in
-        ap (λ (p : PagePut). length p.bytes) (puts_image tables e image kinds at below)
+        ap (λ (p : PagePut). length p.bytes) (image_stands tables e image kinds at below)
         ∙ ap (λ o. length (option_map_or (λ (page : ImagePage). page.bytes) o [])) here.1 ∙ each at here.0 here.1
     | inr past ↦
         let beyond : length image.pages ≤ at = ltb-false at (length image.pages) past in
         let all = leaves_few kinds image.pages in
-        ap (λ (p : PagePut). length p.bytes) (puts_table tables e image kinds at beyond)
+        ap (λ (p : PagePut). length p.bytes) (tables_stand tables e image kinds at beyond)
         ∙ table_bytes_size tables e (2 - (at - length image.pages)) (leaves_of kinds image.pages) (omega arith)
   ]
 
   -- a page of the image has its bytes
   pub put_image_bytes : (at : ℕ) (page : ImagePage) → slice_get image.pages at ≡ Some page → (put at).bytes ≡ page.bytes
   put_image_bytes at page here =
-      ap (λ (p : PagePut). p.bytes) (puts_image tables e image kinds at (slice_get_within image.pages at page here))
+      ap (λ (p : PagePut). p.bytes) (image_stands tables e image kinds at (slice_get_within image.pages at page here))
       ∙ ap (λ o. option_map_or (λ (page : ImagePage). page.bytes) o []) here
 
   module _ (as_many : length kinds ≡ length image.pages) where
     -- and is put into the number's page of its place
     pub own_put : (at : ℕ) → at < length image.pages → (put at).page ≡ get_or (numbers_of kinds) at 0
-    own_put at below = ap (λ (p : PagePut). p.page) (puts_image tables e image kinds at below) ∙ image_page tables e image kinds at (omega arith)
+    own_put at below = ap (λ (p : PagePut). p.page) (image_stands tables e image kinds at below) ∙ image_page tables e image kinds at (omega arith)
 
     table_put_at : (at : ℕ) → length image.pages ≤ at → (put at).page ≡ table_number tables e (2 - (at - length image.pages))
-    table_put_at at beyond = ap (λ (p : PagePut). p.page) (puts_table tables e image kinds at beyond)
+    table_put_at at beyond = ap (λ (p : PagePut). p.page) (tables_stand tables e image kinds at beyond)
 
     pub own_size : length (numbers_of kinds) ≡ length image.pages
     own_size = length-map kinds page_number_of ∙ as_many

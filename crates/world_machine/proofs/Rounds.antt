@@ -1,7 +1,7 @@
 -- A round of a run that isn't over moves some actor: whole rounds come to an end.
-use Rattle.std.proofs.Common.{◌≡◌, ℕ, zero, suc, ◌+◌, ◌<◌, ◌≤◌, leb, Bool, true, false, ◌&&◌, if◌then◌else◌, List, [], ◌∷◌, ◌++◌, length, Option, Some, None, is_some, refl, sym, ap, ◌∙◌, subst, arith, inl, inr}
-use Rattle.std.specs.Prelude.{◌⊎◌, IsTrue, map}
-use Rattle.std.specs.List.{list_all, range_with_len}
+use Rattle.std.proofs.Common.{◌≡◌, ℕ, ◌<◌, ◌≤◌, leb, Bool, true, false, ◌&&◌, if◌then◌else◌, List, [], ◌∷◌, length, Option, Some, None, is_some, refl, sym, ap, ◌∙◌, subst, arith, inl, inr}
+use Rattle.std.specs.Prelude.{◌⊎◌}
+use Rattle.std.specs.List.{list_all}
 use Rattle.std.proofs.lemmas.Bool.{false≢true}
 use Rattle.pl_base.specs.declared.actor.Actor.{Actor}
 use Rattle.pl_base.specs.declared.actor.Actor.TheVariants as actor_is
@@ -17,7 +17,7 @@ use Rattle.world_machine.specs.declared.turned.Wait.TheVariants as wait
 use Rattle.world_machine.specs.declared.under.Under.{Under}
 use Rattle.world_machine.specs.declared.under.Under.TheVariants.{Idle, Putting, Running}
 use Rattle.world_machine.specs.Reached.{Reached}
-use Rattle.world_machine.specs.Runs.{all_answered, hart_turns, is_still, nobody_moves, over_of, remaining, round_of}
+use Rattle.world_machine.specs.Runs.{all_answered, is_still, nobody_moves, over_of, remaining, round_of}
 use Rattle.world_machine.specs.Steps.{Ran, Step, StepOf, Turn, actor_turn, attacker_turn, due, hart_turn, moves, rests, stepped, turn_of, turned_by, world_after}
 use Rattle.world_machine.specs.Worlds.{Event, WorldData, answered_at, attacker_line, hart_line, under_at}
 use Rattle.world_machine.proofs.Kept.{reached_kept}
@@ -82,9 +82,9 @@ module _ (digest_of : List ℕ → List ℕ) (law : (m : List ℕ) → length (d
   step_or w v actor reached none s =
       let step : Step = record { actor = actor; positions = s.positions } in
       let less : turned_by (turn_of digest_of w actor s.positions) ≡ turned.Moved → remaining (stepped digest_of w step) < remaining w
-            = steps_lessen digest_of w step (reached_kept digest_of law w reached) s.fits.actor in
+      = steps_lessen digest_of w step (reached_kept digest_of law w reached) s.fits.actor in
       let still : StillUnlessMoves (turn_of digest_of w actor s.positions) (actor_turn digest_of w actor [])
-            = subst (λ turn. StillUnlessMoves turn (actor_turn digest_of w actor [])) (sym (turn_is digest_of w s.positions actor none)) (actor_still digest_of w actor s.positions) in
+      = subst (λ turn. StillUnlessMoves turn (actor_turn digest_of w actor [])) (sym (turn_is digest_of w s.positions actor none)) (actor_still digest_of w actor s.positions) in
       subst (λ (u : WorldData). (remaining u < remaining w) ⊎ ((u ≡ w) × (tests digest_of w actor ≡ true))) (sym s.is)
       (moved_or w (turn_of digest_of w actor s.positions) (actor_turn digest_of w actor []) still less)
 
@@ -112,7 +112,7 @@ module _ (digest_of : List ℕ → List ℕ) (law : (m : List ℕ) → length (d
   ran_or w v (actor ∷ actors) reached none r = elim (step_or w r.0 actor reached none r.1) [
     | inl less ↦
         inl (let l : remaining r.0 < remaining w = less in
-          let rest : remaining v ≤ remaining r.0 = ran_no_more r.0 v actors (reached_step digest_of gives w r.0 actor reached r.1) r.2 in omega arith)
+        let rest : remaining v ≤ remaining r.0 = ran_no_more r.0 v actors (reached_step digest_of gives w r.0 actor reached r.1) r.2 in omega arith)
     | inr same ↦ elim (ran_or w v actors reached none (subst (λ u. Ran digest_of gives u actors v) same.0 r.2)) [
       | inl less ↦ inl less
       | inr all ↦ inr (ap (λ b. b && list_all (tests digest_of w) actors) same.1 ∙ all)

@@ -4,8 +4,8 @@ use Rattle.world_machine.specs.Runs.{Finishes}
 use Rattle.world_machine.proofs.Stepping.{plays}
 use Rattle.penglai_main.proofs.solo.run_out.Goals as goal
 
-pub returns : goal.returns
-returns g c =
+pub returns-clause-plays : goal.returns-clause-plays
+returns-clause-plays g c =
     let d = g.D.Digester.digest_of in
     let old = c.args.world.now.0 in
     let mid = c.take_ordered_turns.new.world.0 in

@@ -1,6 +1,6 @@
 // The top call over sources and sinks in memory: what no row of `rows/` can show.
-use crate::{Status, quick};
 use mem_slots::{Choice, SlotUse, fewest_uses, first_mounted};
+use penglai_main::{Status, quick};
 use pl_io::{MemSink, MemSource};
 use std::alloc::Global;
 use std::test::Fail;
@@ -12,8 +12,8 @@ const SETUP: &str =
 const HISTORY: &str =
     "h0 0 begun\nh0 0 ok\nh0 1 begun\nh0 1 left 3 ended 000000000000002a\nroot b5de57ef1e171639b3a019b1f5c11f0efc7b324ed2c4625345014d412d67883c\nmounted 0\nend done\n";
 
-// What a call with this word and input ended with and wrote, where these reads and puts fail.
-fn outcome(
+/// What a call with this word and input ended with and wrote, where these reads and puts fail.
+pub(crate) fn outcome(
     alloc: Global,
     word: &str,
     input: &str,

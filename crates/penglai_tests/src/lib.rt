@@ -1,0 +1,12 @@
+//! Tests of the top call and of whole runs, over sources and sinks in memory: what no row of `rows/` can show. There is nothing here but
+//! tests.
+#![tactic(auto)]
+
+#[cfg(test)]
+mod attack_tests;
+#[cfg(test)]
+mod collision_tests;
+#[cfg(test)]
+mod setup_tests;
+#[cfg(test)]
+mod top_tests;
