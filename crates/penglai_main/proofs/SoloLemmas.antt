@@ -1,5 +1,5 @@
 -- What is known of the world that a run ends with, and what its status says.
-use Rattle.std.proofs.Common.{◌≡◌, ℕ, ◌+◌, ◌<◌, List, [], ◌∷◌, ◌++◌, length, take, get_or, Option, Result, Ok, Err, refl, sym, ap, ◌∙◌, subst}
+use Rattle.std.proofs.Common.{◌≡◌, ℕ, ◌+◌, ◌<◌, ◌≢◌, List, [], ◌∷◌, ◌++◌, length, take, get_or, Option, Some, None, Result, Ok, Err, refl, sym, ap, ◌∙◌, subst}
 use Rattle.std.specs.Prelude.{OnErr, OnOk}
 use Rattle.std.specs.Io.KnownBytes.{Appends}
 use Rattle.std.proofs.lemmas.List.{take_more}
@@ -11,13 +11,15 @@ use Rattle.pl_io.specs.Causes.{Rose}
 use Rattle.pl_io.specs.Puts.{Puts}
 use Rattle.world_machine.specs.declared.turned.Finished.{Finished}
 use Rattle.world_machine.specs.declared.turned.Finished.TheVariants as finished
+use Rattle.world_machine.specs.Endings.{EndsBy, IsUndisturbed}
 use Rattle.world_machine.specs.Reached.{Reached, opening_world}
 use Rattle.world_machine.specs.Runs.{Plays, rounds_of}
 use Rattle.world_machine.specs.Steps.{Ran, StepOf}
-use Rattle.world_machine.specs.Worlds.{WorldData}
+use Rattle.world_machine.specs.Worlds.{CollisionData, WorldData}
 use Rattle.world_machine.proofs.Endings.{ends_by}
 use Rattle.world_machine.proofs.Kept.{reached_kept}
 use Rattle.world_machine.proofs.Stepping.{Ran-reached, Ran-setup, Ran-snoc}
+use Rattle.world_machine.proofs.Undisturbed.{undisturbed}
 use Rattle.penglai_main.specs.declared.status.Status.{Status}
 use Rattle.penglai_main.specs.declared.status.Status.TheVariants as status_is
 use Rattle.penglai_main.specs.Ends.{Ends}
@@ -28,7 +30,17 @@ pub opening_setup : (digest_of : List ℕ → List ℕ) (setup : SetupParts) →
 unfolding opening_world
 opening_setup digest_of setup = refl
 
+some_is_kept : (o : Option CollisionData) (c : CollisionData) → o ≡ Some c → o ≡ None → ⊥
+some_is_kept None c some none = cc
+some_is_kept (Some other) c some none = cc
+
 module _ (digest_of : List ℕ → List ℕ) (law : (m : List ℕ) → length (digest_of m) ≡ 32) (gives : Gives) where
+  -- where no collision is kept, the run doesn't end by one
+  not_by_collision : (w : WorldData) (end : Finished) → EndsBy digest_of end w → IsUndisturbed w → end ≢ finished.Collision
+  not_by_collision w finished.Done ends is same = cc
+  not_by_collision w finished.Collision ends is same = some_is_kept w.collision ends.collision ends.kept is.none
+  not_by_collision w finished.Stuck ends is same = cc
+
   pub is_run : (old w : WorldData) (end : Finished) → old ≡ opening_world digest_of old.setup → Reached digest_of old → Plays digest_of gives old w end → IsRunOf digest_of gives old.setup end w
   is_run old w end opening reached plays =
       let actors : List Actor = old.setup.order ++ rounds_of old.setup plays.rounds in
@@ -39,6 +51,10 @@ module _ (digest_of : List ℕ → List ℕ) (law : (m : List ℕ) → length (d
         kept = reached_kept digest_of law w now;
         plays = subst (λ v. Plays digest_of gives v w end) opening plays;
         ends = ends_by digest_of w (reached_kept digest_of law w now) end plays.over;
+        undisturbed = λ still.
+            let kept = reached_kept digest_of law w now in
+            let is = undisturbed digest_of w kept still in
+            (is.faultless, not_by_collision w end (ends_by digest_of w kept end plays.over) is);
       }
 
 module _ (digest_of : List ℕ → List ℕ) (gives : Gives) (setup : SetupParts) (w : WorldData) where

@@ -1,8 +1,9 @@
 -- What is known of the world that a run ends with, and what is written of it.
-use Rattle.std.specs.Prelude.{◌≡◌, ℕ, List, ◌++◌}
+use Rattle.std.specs.Prelude.{◌≡◌, ◌≢◌, ℕ, List, ◌++◌}
 use Rattle.mem_slots.specs.declared.slot_use.SlotUse.{SlotUse}
 use Rattle.pl_history.specs.declared.setup.SetupParts.{SetupParts}
 use Rattle.pl_history.specs.Text.{text_of}
+use Rattle.pl_history.specs.Unattacked.{IsFaultless, IsUnattacked}
 use Rattle.world_core.specs.Report.{world_report}
 use Rattle.world_machine.specs.declared.turned.Finished.{Finished}
 use Rattle.world_machine.specs.declared.turned.Finished.TheVariants as finished
@@ -26,13 +27,15 @@ run_text w end = text_of w.setup.harts w.history ++ world_report w end
 -- The world that a run of a setup ends with. It is reached from the one that the run begins with by the turns of the setup's order and then
 -- of whole rounds, and the evicted slots are those that the choice names. So its history is legal, and the world stands to the abstract
 -- monitor's state that this history gives: each number is its image run alone on flat memory with the words sent to it, each fault that was
--- answered names a place that the attacker changed before. And it is over in this way.
+-- answered names a place that the attacker changed before. And it is over in this way. Where the attacker changed no byte, every line is
+-- answered without a fault, or the run is stuck.
 pub record IsRunOf (digest_of : List ℕ → List ℕ) (gives : Gives) (setup : SetupParts) (end : Finished) (w : WorldData) : Type 0 where
   pub setup_is : w.setup ≡ setup
   pub reached : Reached digest_of w
   pub kept : Kept digest_of w
   pub plays : Plays digest_of gives (opening_world digest_of setup) w end
   pub ends : EndsBy digest_of end w
+  pub undisturbed : IsUnattacked w.history.entries → IsFaultless w.history.entries × (end ≢ finished.Collision)
 
 -- the world that a run ended with, and the whole of its output
 abbrev pub IsWritten : (List ℕ → List ℕ) → Gives → SetupParts → Finished → WorldData → Ends → Type 0

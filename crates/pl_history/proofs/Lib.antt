@@ -8,3 +8,5 @@ mod MakingCases
 pub mod ProgressLemmas
 mod ProtectionLemmas
 mod RunCases
+pub mod StatesStay
+pub mod Unattacked

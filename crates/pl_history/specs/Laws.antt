@@ -8,6 +8,7 @@ use Rattle.pl_history.specs.declared.setup.SetupParts.{SetupParts}
 use Rattle.pl_history.specs.History.{NamesPart}
 use Rattle.pl_history.specs.Legal.{ActorLine, line_at, Allowed, after, legal_state, Legal}
 use Rattle.pl_history.specs.Monitor.{Monitor, Progress}
+use Rattle.pl_history.specs.Unattacked.{IsFaultless, IsUnattacked}
 
 -- a legal history stays legal where one more entry is allowed in the state that it gives
 abbrev pub OneMoreIsLegal : Type 0
@@ -47,3 +48,10 @@ pub record LinesBeginOnce : Type 0 where
       → (s.progress entry.actor).begun ≡ true → entry.answer ≡ answer_is.Begun → ⊥
   pub never : (setup : SetupParts) (bytes : List ℕ) (s : Monitor) (before : List Entry) (entry : Entry) → Allowed setup bytes s before entry
       → entry.actor ≡ setup.harts → entry.answer ≡ answer_is.Begun → ⊥
+
+-- ---- without attacks
+
+-- where no answer is `wrote 1`, no answer is a fault, and no attack is remembered
+pub record UnattackedIsFaultless : Type 0 where
+  pub faultless : (setup : SetupParts) (bytes : List ℕ) (entries : List Entry) → Legal setup bytes entries → IsUnattacked entries → IsFaultless entries
+  pub unattacked : (setup : SetupParts) (bytes : List ℕ) (entries : List Entry) → Legal setup bytes entries → IsUnattacked entries → (legal_state setup bytes entries).attacks ≡ []

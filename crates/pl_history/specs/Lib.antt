@@ -12,6 +12,7 @@ pub mod Running
 pub mod Words
 pub mod GivingBack
 pub mod Attacking
+pub mod Unattacked
 pub mod Waiting
 pub mod Legal
 pub mod Laws

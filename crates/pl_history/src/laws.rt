@@ -1,5 +1,5 @@
 // Laws of histories.
-ghost use Rattle.pl_history.specs.Laws.{OneMoreIsLegal, OneMoreGives, MoreBytesLeaveLegal, MoreBytesLeaveState, AnswersMoveOneActor, LinesBeginOnce};
+ghost use Rattle.pl_history.specs.Laws.{OneMoreIsLegal, OneMoreGives, MoreBytesLeaveLegal, MoreBytesLeaveState, AnswersMoveOneActor, LinesBeginOnce, UnattackedIsFaultless};
 
 /// A history grows by one entry at a time: it stays legal where that entry is allowed, and the state that it gives is the one after it.
 #[tactic(auto, using(crate::proofs::HistoryLemmas::one_more_is_legal, crate::proofs::HistoryLemmas::one_more_gives))]
@@ -20,4 +20,10 @@ pub fn added_bytes_leave_histories()
 pub fn answers_move_one_actor()
     ensures moves { AnswersMoveOneActor }
     ensures begins { LinesBeginOnce }
+{}
+
+/// Where the attacker changed no byte, no answer is a fault.
+#[tactic(auto, using(crate::proofs::Unattacked::unattacked_is_faultless))]
+pub fn faults_need_an_attack()
+    ensures { UnattackedIsFaultless }
 {}

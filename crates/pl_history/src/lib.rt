@@ -12,7 +12,10 @@ mod setup;
 
 pub use answer::{Answer, Entry};
 pub use history::History;
-pub use laws::{added_bytes_leave_histories, answers_move_one_actor, histories_grow_by_entries};
+pub use laws::{
+    added_bytes_leave_histories, answers_move_one_actor, faults_need_an_attack,
+    histories_grow_by_entries,
+};
 pub use line::{AttackLine, Line};
 pub use pages::{all_pages, guarded_pages};
 pub use printing::{put_entry, put_history, put_place};

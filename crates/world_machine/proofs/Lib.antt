@@ -50,5 +50,6 @@ pub mod StandingEnclaves
 pub mod Stepping
 pub mod TalkingRows
 pub mod UnderWay
+pub mod Undisturbed
 pub mod WordParts
 pub mod WordRows

@@ -5,6 +5,7 @@ use Rattle.pl_history.specs.declared.line.AttackLine.TheVariants as attack
 use Rattle.pl_history.specs.declared.line.Line.{Line}
 use Rattle.pl_history.specs.declared.line.Line.TheVariants as line_is
 use Rattle.pl_history.specs.Legal.{AllAnswered}
+use Rattle.pl_history.specs.Unattacked.{IsFaultless}
 use Rattle.world_machine.specs.declared.turned.Finished.{Finished}
 use Rattle.world_machine.specs.declared.turned.Finished.TheVariants as finished
 use Rattle.world_machine.specs.declared.under.Under.TheVariants.{Idle}
@@ -49,3 +50,8 @@ abbrev pub EndsBy : (List ℕ → List ℕ) → Finished → WorldData → Type 
 EndsBy digest_of finished.Done w = IsDone w
 EndsBy digest_of finished.Collision w = HasCollision digest_of w
 EndsBy digest_of finished.Stuck w = IsStuck w
+
+-- no answer is a fault, and no collision is kept
+pub record IsUndisturbed (w : WorldData) : Type 0 where
+  pub faultless : IsFaultless w.history.entries
+  pub none : w.collision ≡ None

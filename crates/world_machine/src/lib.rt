@@ -6,7 +6,7 @@ mod numbers;
 mod turned;
 mod under;
 
-pub use laws::{moves_lessen, reached_worlds_stand};
+pub use laws::{faults_need_an_attack, moves_lessen, reached_worlds_stand};
 pub use numbers::numbers_fit;
 pub use turned::{Finished, Turned, Wait};
 pub use under::Under;
