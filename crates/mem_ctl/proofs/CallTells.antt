@@ -13,12 +13,13 @@ use Rattle.mem_ctl.specs.declared.broken.Broken.TheVariants as broken
 use Rattle.mem_ctl.specs.declared.told.Told.{Told}
 use Rattle.mem_ctl.specs.declared.told.Told.TheVariants as told
 use Rattle.mem_ctl.specs.Access.{Accessed, AccessTells, BothChange, BothStay}
-use Rattle.mem_ctl.specs.Calls.{TakenWord, WordOp, ask_of, get_page_of, put_page_of, read_word_of, tell_of, write_part_of}
+use Rattle.mem_ctl.specs.declared.told.Op.{Op}
+use Rattle.mem_ctl.specs.Calls.{TakenWord, ask_of, get_page_of, put_page_of, read_word_of, tell_of, write_part_of}
 use Rattle.mem_ctl.specs.Causes.{IsCause, IsCauseOfTelling}
 use Rattle.mem_ctl.specs.Data.{CtlData, Going, Outcome, After, going}
 use Rattle.mem_ctl.specs.Laws.{HasTold, PageIsRead, PathIsTaken, TellingTells, WordIsRead}
 use Rattle.mem_ctl.specs.Results.{IsCall, outcome_of}
-use Rattle.mem_ctl.specs.Tellings.{IsWordOpIn, told_outcome}
+use Rattle.mem_ctl.specs.Tellings.{IsOpIn, told_outcome}
 use Rattle.mem_ctl.specs.TreesHold.{IsKept}
 use Rattle.mem_ctl.proofs.AccessLaws.{asks_tell, page_reads_tell, page_writes_tell, reads_tell, writes_tell}
 use Rattle.mem_ctl.proofs.TellLaws.{tellings_tell}
@@ -30,7 +31,7 @@ pub cause_of : {A : Type 0} (d : List ℕ → List ℕ) (places : List Place) (D
 cause_of d places Done old (broken.Fault place) new tells = tells
 cause_of d places Done old (broken.Collision c) new tells = tells
 
-pub cause_of_telling : (d : List ℕ → List ℕ) (t : TakenWord) (op : WordOp) (old : CtlData) (why : Told) (new : CtlData) → TellingTells d t op old (told_outcome (Err why)) new → (new ≡ old) × IsCauseOfTelling d t old why
+pub cause_of_telling : (d : List ℕ → List ℕ) (t : TakenWord) (op : Op) (old : CtlData) (why : Told) (new : CtlData) → TellingTells d t op old (told_outcome (Err why)) new → (new ≡ old) × IsCauseOfTelling d t old why
 cause_of_telling d t op old (told.Broken (broken.Fault place)) new tells = tells
 cause_of_telling d t op old (told.Broken (broken.Collision c)) new tells = tells
 cause_of_telling d t op old (told.Again taken_root root) new tells = tells
@@ -71,6 +72,6 @@ module _ (gives : List SlotUse → ℕ → Type 0) (d : List ℕ → List ℕ) (
   ask_tells page offset there =
       from_call (ask_of d page offset) (λ o new. Accessed d [] (PathIsTaken page offset old new) old o new) (λ positions. asks_tell d law page offset (going old positions) kept there)
 
-  pub tell_tells : (t : TakenWord) (op : WordOp) → t.page < 64 * old.zones → t.block < 64 → IsWordOpIn t.block op → (o : Outcome ℕ) (new : CtlData) → IsCall gives (tell_of d t op) old o new → HasTold d t op old o new
+  pub tell_tells : (t : TakenWord) (op : Op) → t.page < 64 * old.zones → t.block < 64 → IsOpIn t.block op → (o : Outcome ℕ) (new : CtlData) → IsCall gives (tell_of d t op) old o new → HasTold d t op old o new
   tell_tells t op there below fine =
       from_call (tell_of d t op) (λ o new. HasTold d t op old o new) (λ positions. tellings_tell d law t op (going old positions) kept there below fine)

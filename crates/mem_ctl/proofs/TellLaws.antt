@@ -15,11 +15,12 @@ use Rattle.mem_tree.proofs.Differences.{bytes_eq-same, differences_collide, same
 use Rattle.mem_tree.proofs.WordPaths.{parts_answer_alike}
 use Rattle.mem_geom.specs.PathPlaces.{word_places}
 use Rattle.mem_ctl.specs.Access.{IsTampered, Leaves}
-use Rattle.mem_ctl.specs.Calls.{TakenWord, WordOp, op_offset, path_in, slot_root, tell_of, tell_under, told}
+use Rattle.mem_ctl.specs.declared.told.Op.{Op}
+use Rattle.mem_ctl.specs.Calls.{TakenWord, op_offset, path_in, slot_root, tell_of, tell_under, told}
 use Rattle.mem_ctl.specs.Data.{CtlData, Going, Again, After, answer, going, if_holds}
 use Rattle.mem_ctl.specs.Laws.{CallsTell, HasTold, TakenPathsTell, TellingsTell, is_fresh}
 use Rattle.mem_ctl.specs.Mounting.{count_use, taken, used, written}
-use Rattle.mem_ctl.specs.Tellings.{IsWordOpIn}
+use Rattle.mem_ctl.specs.Tellings.{IsOpIn}
 use Rattle.mem_ctl.specs.TreesHold.{IsKept}
 use Rattle.mem_ctl.proofs.AccessLaws.{asks_tell, keeps_leaves, mountings_tell, page_reads_tell, page_writes_tell, reads_tell, writes_tell}
 use Rattle.mem_ctl.proofs.AccessLemmas.{count_use-keeps, word_path-in, zone_why, zone_written}
@@ -66,7 +67,7 @@ module _ (d : List ℕ → List ℕ) (path : Path) (written_at : Place → List 
 
 -- ---- the law
 
-module _ (d : List ℕ → List ℕ) (law : HasDigests d) (t : TakenWord) (op : WordOp) (g : Going) (kept : IsKept d g.ctl) (there : t.page < 64 * g.ctl.zones) (below : t.block < 64) (fine : IsWordOpIn t.block op) where
+module _ (d : List ℕ → List ℕ) (law : HasDigests d) (t : TakenWord) (op : Op) (g : Going) (kept : IsKept d g.ctl) (there : t.page < 64 * g.ctl.zones) (below : t.block < 64) (fine : IsOpIn t.block op) where
   abbrev x : CtlData
   x = g.ctl
 

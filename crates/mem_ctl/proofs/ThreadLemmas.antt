@@ -11,7 +11,8 @@ use Rattle.mem_slots.specs.declared.slot_use.SlotUse.{SlotUse}
 use Rattle.mem_slots.specs.Slots.{is_mounted, root_of, slot_at, use_of}
 use Rattle.mem_tree.specs.Checks.{Checked, check, Holds as AllHold, Fault as BreaksAt, Collision as CollidesAt}
 use Rattle.mem_tree.specs.Paths.{first_break}
-use Rattle.mem_ctl.specs.Calls.{TakenWord, WordOp, accessed, ask_of, get_page_of, op_offset, path_in, put_page_of, read_word_of, root_stands, tell_of, tell_under, told, with_page_at, with_part, word_taken, write_part_of, zone_check}
+use Rattle.mem_ctl.specs.declared.told.Op.{Op}
+use Rattle.mem_ctl.specs.Calls.{TakenWord, accessed, ask_of, get_page_of, op_offset, path_in, put_page_of, read_word_of, root_stands, tell_of, tell_under, told, with_page_at, with_part, word_taken, write_part_of, zone_check}
 use Rattle.mem_ctl.specs.Data.{CtlData, Going, Outcome, Value, Fault, Collision, Again, After, and_then, answer, go_on, going, if_holds}
 use Rattle.mem_ctl.specs.Mounting.{asked, evicted, evicted_at, mounted_anew, mounted_for, mounted_last, position_of, root_check, taken, used, written}
 use Rattle.mem_ctl.specs.Results.{AreGiven, IsCall}
@@ -214,7 +215,7 @@ module _ (d : List ℕ → List ℕ) where
       Threads-then (mounted_for d (page / 64)) (λ (done : Unit {0}) (h : Going). answer (word_taken h.ctl page (offset / 64)) h) (Threads-mounted (page / 64))
       (λ (done : Unit {0}). Threads-quiet (λ (x : CtlData). Value (word_taken x page (offset / 64))) (λ (x : CtlData). x))
 
-  module _ (t : TakenWord) (op : WordOp) where
+  module _ (t : TakenWord) (op : Op) where
     under : (o : Option Place) → Threads (tell_under d o t op)
     under (Some place) = Threads-checked (λ (x : CtlData). x) (λ (x : CtlData). 0) (λ (x : CtlData). x) (λ (x : CtlData). check d (path_in t) (written x))
     under None =

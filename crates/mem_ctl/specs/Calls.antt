@@ -17,9 +17,11 @@ use Rattle.mem_tree.specs.Changes.{above_block, above_page, renewed, renewed_roo
 use Rattle.mem_tree.specs.Checks.{Checked, check}
 use Rattle.mem_tree.specs.Paths.{Path, first_break, path_of}
 use Rattle.mem_tree.specs.Words.{part_bytes, parts_path, word_path}
+use Rattle.mem_ctl.specs.declared.told.Op.{Op}
+use Rattle.mem_ctl.specs.declared.told.Op.TheVariants.{Read, Write}
 use Rattle.mem_ctl.specs.Data.{CtlData, Going, After, Again, answer, and_then, if_holds}
 use Rattle.mem_ctl.specs.Mounting.{count_use, mounted_for, put, taken, written}
-use Rattle.mem_ctl.specs.Writes.{word_at}
+use Rattle.mem_ctl.specs.Writes.{with_page_under, word_at}
 
 -- the root of a mounted zone
 abbrev pub slot_root : CtlData → ℕ → List ℕ
@@ -41,14 +43,10 @@ word_taken x page block = record { page = page; block = block; parts = word_path
 abbrev pub path_in : TakenWord → Path
 path_in t = parts_path t.page t.block t.parts
 
--- what a sealed path is for: a read of the word at an offset, or a write of some bytes of it
-pub data WordOp : Type 0 where
-  Read : ℕ → WordOp
-  Write : ℕ → ℕ → ℕ → WordOp
-
-abbrev pub op_offset : WordOp → ℕ
+-- where a sealed path's word is read, or some bytes of it are written
+abbrev pub op_offset : Op → ℕ
 op_offset (Read offset) = offset
-op_offset (Write offset width word) = offset
+op_offset (Write offset width value) = offset
 
 -- a root is the one of the zone's slot
 abbrev pub root_stands : List ℕ → Option (List ℕ) → Bool
@@ -84,8 +82,7 @@ module _ (digest_of : List ℕ → List ℕ) where
 
   -- a memory with another page and the nodes of level 1 over its blocks
   abbrev pub with_page : ℕ → ℕ → List ℕ → List ℕ → List ℕ
-  with_page zones page bytes memory =
-      with_bytes (with_bytes memory (4096 * page) bytes) (place_start zones (Node 1 (page / 64) (8 * (page % 64))) - 0x80000000) (concat (lower_nodes (block_digests digest_of bytes)))
+  with_page zones page bytes = with_page_under zones page bytes (concat (lower_nodes (block_digests digest_of bytes)))
 
   -- a page is replaced: its node of level 2, the nodes above it and the root are renewed
   unfoldable pub with_page_at : ℕ → List ℕ → CtlData → CtlData
@@ -103,13 +100,13 @@ module _ (digest_of : List ℕ → List ℕ) where
   ask_of page offset g = and_then (mounted_for digest_of (page / 64) g) (λ _ h. answer (word_taken h.ctl page (offset / 64)) h)
 
   -- what a sealed path does where it holds, its root stands, and each place is as it was written
-  abbrev pub told : TakenWord → WordOp → CtlData → CtlData
+  abbrev pub told : TakenWord → Op → CtlData → CtlData
   told t (Read offset) x = x
-  told t (Write offset width word) x = with_part (part_bytes t.parts) t.page t.block (offset % 64) (little_bytes width word) x
+  told t (Write offset width value) x = with_part (part_bytes t.parts) t.page t.block (offset % 64) (little_bytes width value) x
 
   -- a path that breaks is refused by its check; where it holds and its root is another or none by now, it is asked again;
   -- else it is checked against the mirror, counts a use, answers the eight bytes that hold the part, and writes
-  abbrev pub tell_under : Option Place → TakenWord → WordOp → Going → After ℕ
+  abbrev pub tell_under : Option Place → TakenWord → Op → Going → After ℕ
   tell_under (Some place) t op g = if_holds (check digest_of (path_in t) (written g.ctl)) g (answer 0 g)
   tell_under None t op g =
       if root_stands t.parts.root (root_of g.ctl.mounted (t.page / 64))
@@ -117,5 +114,5 @@ module _ (digest_of : List ℕ → List ℕ) where
       (answer (little_number 8 (bytes_at t.parts.block (op_offset op % 64 / 8 * 8) 8)) (count_use (t.page / 64) (record g { ctl = told t op g.ctl })))
       else record { outcome = Again t.parts.root (root_of g.ctl.mounted (t.page / 64)); after = g }
 
-  unfoldable pub tell_of : TakenWord → WordOp → Going → After ℕ
+  unfoldable pub tell_of : TakenWord → Op → Going → After ℕ
   tell_of t op g = tell_under (first_break digest_of (path_in t)) t op g

@@ -12,10 +12,12 @@ use Rattle.mem_tree.specs.Checks.{AreOneDigest}
 use Rattle.mem_tree.specs.Paths.{first_break}
 use Rattle.mem_tree.specs.Words.{part_bytes}
 use Rattle.mem_ctl.specs.Access.{Accessed, BothChange, BothStay, IsTampered, Leaves}
-use Rattle.mem_ctl.specs.Calls.{TakenWord, WordOp, Read, Write, ask_of, get_page_of, op_offset, path_in, put_page_of, read_word_of, root_stands, tell_of, word_taken, write_part_of}
+use Rattle.mem_ctl.specs.declared.told.Op.{Op}
+use Rattle.mem_ctl.specs.declared.told.Op.TheVariants.{Read, Write}
+use Rattle.mem_ctl.specs.Calls.{TakenWord, ask_of, get_page_of, op_offset, path_in, put_page_of, read_word_of, root_stands, tell_of, word_taken, write_part_of}
 use Rattle.mem_ctl.specs.Data.{CtlData, Going, Outcome, Value, Fault, Collision, Again}
 use Rattle.mem_ctl.specs.Mounting.{mounted_for, taken, written}
-use Rattle.mem_ctl.specs.Tellings.{IsWordOpIn}
+use Rattle.mem_ctl.specs.Tellings.{IsOpIn}
 use Rattle.mem_ctl.specs.TreesHold.{IsKept}
 use Rattle.mem_ctl.specs.Writes.{word_at}
 use Rattle.mem_ctl.specs.WrittenPages.{ChangesPage}
@@ -47,7 +49,7 @@ pub record PartIsPut (page block offset : ℕ) (part : List ℕ) (old new : CtlD
   pub off_chip_pages : ChangesPage old.zones page (with_bytes (page_bytes old.off_chip page) (64 * block) (with_bytes (written old (Block page block)) (offset % 64) part)) old.off_chip new.off_chip
   pub mirror_pages : ChangesPage old.zones page (with_bytes (page_bytes old.mirror page) offset part) old.mirror new.mirror
 
-abbrev pub Obeyed : TakenWord → WordOp → CtlData → CtlData → Type 0
+abbrev pub Obeyed : TakenWord → Op → CtlData → CtlData → Type 0
 Obeyed t (Read offset) old new = BothStay old new
 Obeyed t (Write offset width word) old new = PartIsPut t.page t.block offset (little_bytes width word) old new
 
@@ -57,7 +59,7 @@ is_fresh t x = root_stands t.parts.root (root_of x.mounted (t.page / 64))
 
 module _ (digest_of : List ℕ → List ℕ) where
   -- a sealed path that is obeyed holds, under the root of its zone's slot; its word is the one that was written
-  pub record IsObeyed (t : TakenWord) (op : WordOp) (old new : CtlData) (word : ℕ) : Type 0 where
+  pub record IsObeyed (t : TakenWord) (op : Op) (old new : CtlData) (word : ℕ) : Type 0 where
     pub fresh : is_fresh t old ≡ true
     pub whole : first_break digest_of (path_in t) ≡ None
     pub as_written : word ≡ word_at old.mirror t.page (op_offset op / 8 * 8)
@@ -77,13 +79,13 @@ module _ (digest_of : List ℕ → List ℕ) where
     pub root_is : root ≡ root_of old.mounted (t.page / 64)
 
   -- a refusal changes nothing
-  abbrev pub TellingTells : TakenWord → WordOp → CtlData → Outcome ℕ → CtlData → Type 0
+  abbrev pub TellingTells : TakenWord → Op → CtlData → Outcome ℕ → CtlData → Type 0
   TellingTells t op old (Value word) new = IsObeyed t op old new word
   TellingTells t op old (Fault place) new = (new ≡ old) × IsBroken t old place
   TellingTells t op old (Collision place held other) new = (new ≡ old) × AreOneDigest digest_of (path_in t) (written old) place held other
   TellingTells t op old (Again taken_root root) new = (new ≡ old) × IsStale t old taken_root root
 
-  pub record HasTold (t : TakenWord) (op : WordOp) (old : CtlData) (outcome : Outcome ℕ) (new : CtlData) : Type 0 where
+  pub record HasTold (t : TakenWord) (op : Op) (old : CtlData) (outcome : Outcome ℕ) (new : CtlData) : Type 0 where
     pub leaves : Leaves digest_of old new
     pub tells : TellingTells t op old outcome new
 
@@ -114,7 +116,7 @@ module _ (digest_of : List ℕ → List ℕ) where
       → let r = ask_of digest_of page offset g in Accessed digest_of [] (PathIsTaken page offset g.ctl r.after.ctl) g.ctl r.outcome r.after.ctl
 
   abbrev pub TellingsTell : Type 0
-  TellingsTell = (t : TakenWord) (op : WordOp) (g : Going) → IsKept digest_of g.ctl → t.page < 64 * g.ctl.zones → t.block < 64 → IsWordOpIn t.block op
+  TellingsTell = (t : TakenWord) (op : Op) (g : Going) → IsKept digest_of g.ctl → t.page < 64 * g.ctl.zones → t.block < 64 → IsOpIn t.block op
       → let r = tell_of digest_of t op g in HasTold t op g.ctl r.outcome r.after.ctl
 
   -- a path that is taken from a mounted zone, and breaks at a place above which all stands as it was written then: so does that place not

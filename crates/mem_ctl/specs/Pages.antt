@@ -2,10 +2,8 @@
 use Rattle.std.specs.Prelude.{ℕ, ◌+◌, ◌-◌, ◌*◌, ◌/◌, ◌%◌, ◌==◌, List, [], ◌∷◌, nat_lt, if◌then◌else◌, Result, Ok, Err}
 use Rattle.pl_base.specs.declared.place.Place.{Place}
 use Rattle.pl_base.specs.declared.place.Place.TheVariants.{Block, Node}
-use Rattle.pl_base.specs.Bytes.{with_bytes}
-use Rattle.mem_geom.specs.Layout.{place_start}
 use Rattle.mem_tree.specs.Changes.{at_place}
-use Rattle.mem_ctl.specs.Writes.{with_places}
+use Rattle.mem_ctl.specs.Writes.{with_page_under, with_places}
 use Rattle.mem_ctl.specs.declared.broken.Broken.{Broken}
 use Rattle.mem_ctl.specs.declared.broken.Broken.TheVariants as broken
 use Rattle.mem_ctl.specs.Data.{Outcome, Value, Fault, Collision}
@@ -27,6 +25,5 @@ got_outcome bytes (Err (broken.Collision c)) = Collision c.place c.held.items c.
 -- a memory with a page and the nodes over it
 abbrev pub page_written : ℕ → ℕ → List ℕ → List ℕ → List ℕ → List ℕ → List ℕ → List ℕ → List ℕ
 page_written zones page bytes level1 level2 level3 level4 memory =
-    with_places zones
-    (with_bytes (with_bytes memory (4096 * page) bytes) (place_start zones (Node 1 (page / 64) (8 * (page % 64))) - 0x80000000) level1)
+    with_places zones (with_page_under zones page bytes level1 memory)
     (at_place (Node 2 (page / 64) (page % 64)) level2 ∷ at_place (Node 3 (page / 64) (page % 64 / 8)) level3 ∷ at_place (Node 4 (page / 64) 0) level4 ∷ [])

@@ -1,9 +1,8 @@
 -- What the calls that touch off-chip bytes alone leave.
 use Rattle.std.specs.Prelude.{ℕ, ◌+◌, ◌-◌, ◌*◌, List}
 use Rattle.byteorder.specs.Endian.{little_bytes}
-use Rattle.pl_base.specs.Bytes.{with_bytes}
 use Rattle.mem_ctl.specs.Data.{CtlData, with_off_chip}
-use Rattle.mem_ctl.specs.Writes.{zero_page}
+use Rattle.pl_base.specs.Bytes.{with_bytes, zero_page}
 
 -- a word is written into a page
 abbrev pub raw_written : CtlData → ℕ → ℕ → ℕ → CtlData

@@ -5,27 +5,15 @@ use Rattle.mem_tree.specs.declared.sealed.Verdict.{Verdict}
 use Rattle.mem_tree.specs.declared.sealed.Verdict.TheVariants as verdict
 use Rattle.mem_ctl.specs.declared.broken.Broken.TheVariants as broken
 use Rattle.mem_ctl.specs.declared.told.Op.{Op}
-use Rattle.mem_ctl.specs.declared.told.Op.TheVariants as op
+use Rattle.mem_ctl.specs.declared.told.Op.TheVariants.{Read, Write}
 use Rattle.mem_ctl.specs.declared.told.Told.{Told}
 use Rattle.mem_ctl.specs.declared.told.Told.TheVariants as told
-use Rattle.mem_ctl.specs.Calls.{WordOp, Read, Write}
 use Rattle.mem_ctl.specs.Data.{Outcome, Value, Fault, Collision, Again}
 
-abbrev pub op_of : Op → WordOp
-op_of (op.Read offset) = Read offset
-op_of (op.Write offset width value) = Write offset width value
-
-abbrev pub op_offset_of : Op → ℕ
-op_offset_of (op.Read offset) = offset
-op_offset_of (op.Write offset width value) = offset
-
 -- the part is one of the block's page, and lies in the block
-abbrev pub IsWordOpIn : ℕ → WordOp → Type 0
-IsWordOpIn block (Read offset) = (offset < 4096) × (offset / 64 ≡ block)
-IsWordOpIn block (Write offset width word) = (offset < 4096) × (offset / 64 ≡ block) × IsTrue (is_width width) × (offset % width ≡ 0)
-
 abbrev pub IsOpIn : ℕ → Op → Type 0
-IsOpIn block op = IsWordOpIn block (op_of op)
+IsOpIn block (Read offset) = (offset < 4096) × (offset / 64 ≡ block)
+IsOpIn block (Write offset width value) = (offset < 4096) × (offset / 64 ≡ block) × IsTrue (is_width width) × (offset % width ≡ 0)
 
 -- what it answers
 abbrev pub told_outcome : Result ℕ Told → Outcome ℕ

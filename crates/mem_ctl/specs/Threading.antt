@@ -1,7 +1,8 @@
 -- Calls one after another: each takes its positions from the front of those that are left, and shows its lists after those that were shown.
 use Rattle.std.specs.Prelude.{ℕ, ◌≡◌, ◌≤◌, List, ◌++◌, length, drop}
 use Rattle.mem_slots.specs.declared.slot_use.SlotUse.{SlotUse}
-use Rattle.mem_ctl.specs.Calls.{TakenWord, WordOp, ask_of, get_page_of, put_page_of, read_word_of, tell_of, write_part_of}
+use Rattle.mem_ctl.specs.declared.told.Op.{Op}
+use Rattle.mem_ctl.specs.Calls.{TakenWord, ask_of, get_page_of, put_page_of, read_word_of, tell_of, write_part_of}
 use Rattle.mem_ctl.specs.Data.{Going, After}
 use Rattle.mem_ctl.specs.Mounting.{mounted_for}
 
@@ -27,4 +28,4 @@ pub record CallsThread (digest_of : List ℕ → List ℕ) : Type 0 where
   pub page_reads : (page : ℕ) → Threads (get_page_of digest_of page)
   pub page_writes : (page : ℕ) (bytes : List ℕ) → Threads (put_page_of digest_of page bytes)
   pub asks : (page offset : ℕ) → Threads (ask_of digest_of page offset)
-  pub tellings : (t : TakenWord) (op : WordOp) → Threads (tell_of digest_of t op)
+  pub tellings : (t : TakenWord) (op : Op) → Threads (tell_of digest_of t op)

@@ -1,7 +1,8 @@
 -- Parts of off-chip memory, and what writes at places leave of it.
-use Rattle.std.specs.Prelude.{ℕ, ◌+◌, ◌-◌, ◌*◌, List, ◌∷◌, [], map, replicate}
+use Rattle.std.specs.Prelude.{ℕ, ◌+◌, ◌-◌, ◌*◌, ◌/◌, ◌%◌, List, ◌∷◌, [], map}
 use Rattle.std.specs.List.{range_with_len}
 use Rattle.byteorder.specs.Endian.{little_number}
+use Rattle.pl_base.specs.declared.place.Place.TheVariants.{Node}
 use Rattle.pl_base.specs.Bytes.{bytes_at, with_bytes}
 use Rattle.mem_geom.specs.Layout.{place_start}
 use Rattle.mem_geom.specs.Parts.{page_bytes}
@@ -16,9 +17,10 @@ abbrev pub with_places : ℕ → List ℕ → List PlaceBytes → List ℕ
 with_places zones memory [] = memory
 with_places zones memory (written ∷ rest) = with_places zones (with_place zones memory written) rest
 
--- a page of zero bytes
-unfoldable pub zero_page : List ℕ
-zero_page = replicate 4096 0
+-- a memory with other bytes in a page, and these bytes as the nodes of level 1 over its blocks
+abbrev pub with_page_under : ℕ → ℕ → List ℕ → List ℕ → List ℕ → List ℕ
+with_page_under zones page bytes level1 memory =
+    with_bytes (with_bytes memory (4096 * page) bytes) (place_start zones (Node 1 (page / 64) (8 * (page % 64))) - 0x80000000) level1
 
 -- the 64 pages of a zone
 unfoldable pub zone_pages : List ℕ → ℕ → List (List ℕ)

@@ -2,14 +2,14 @@
 ghost use Rattle.std.specs.Prelude.{◌≡◌, ◌≤◌, ◌<◌, ◌*◌, ◌%◌, ◌+◌, ◌-◌, ◌==◌, not, length, map, All, AllPairs};
 ghost use Rattle.std.specs.Str.{bytes_eq};
 ghost use Rattle.byteorder.specs.Endian.{little_bytes};
-ghost use Rattle.pl_base.specs.Bytes.{bytes_at, with_bytes};
+ghost use Rattle.pl_base.specs.Bytes.{bytes_at, with_bytes, zero_page};
 ghost use Rattle.mem_geom.specs.Layout.{Exists, place_bytes, place_length};
 ghost use Rattle.pl_digest.specs.Trees.{table_root};
 ghost use Rattle.mem_slots.specs.Slots.{use_of};
 ghost use Rattle.mem_ctl.specs.Kept.{root_entries};
 ghost use Rattle.mem_ctl.specs.Raw.{attacked, raw_written, raw_zeroed};
 ghost use Rattle.mem_ctl.specs.TreesHold.{AreUsesOfTwoZones};
-ghost use Rattle.mem_ctl.specs.Writes.{word_at, zero_page};
+ghost use Rattle.mem_ctl.specs.Writes.{word_at};
 
 use crate::check::read_place;
 use byteorder::{ByteOrder, LittleEndian};
@@ -159,7 +159,7 @@ pub(crate) fn write_word(memory: &mut Dram, page: u32, offset: u16, word: u64)
 }
 
 /// A page of zero bytes.
-#[tactic(auto, unfolding(crate::specs::Writes::zero_page))]
+#[tactic(auto, unfolding(pl_base::specs::Bytes::zero_page))]
 pub(crate) fn zeros() -> [u8; 4096]
     ensures { result ≡ zero_page }
 {

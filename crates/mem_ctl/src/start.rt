@@ -1,14 +1,14 @@
 // A controller as it is made: page words from a list, all digests over them, and nothing mounted.
 ghost use Rattle.std.specs.Prelude.{◌≡◌, ◌≤◌, ◌<◌, ◌*◌, ◌/◌, ◌+◌, ◌-◌, ◌++◌, ◌^◌, length, map, All, IfOk};
 ghost use Rattle.std.specs.List.{concat, range_with_len};
-ghost use Rattle.pl_base.specs.Bytes.{with_bytes};
+ghost use Rattle.pl_base.specs.Bytes.{with_bytes, zero_page};
 ghost use Rattle.pl_base.specs.ListedWords.{AreWordsOf};
 ghost use Rattle.pl_digest.specs.Trees.{page_root, page_roots, table_root, zone_root};
 ghost use Rattle.mem_geom.specs.Layout.{memory_size};
 ghost use Rattle.mem_geom.specs.Parts.{page_bytes};
 ghost use Rattle.mem_ctl.specs.Known.{AreEachDigest, AreNodesOver, IsKnown, IsTableWritten, IsTopOver};
 ghost use Rattle.mem_ctl.specs.Start.{HasWords, level1_nodes, level2_nodes, start_data, table_nodes, zone_entries, zone_nodes};
-ghost use Rattle.mem_ctl.specs.Writes.{zero_page, zone_pages};
+ghost use Rattle.mem_ctl.specs.Writes.{zone_pages};
 
 use crate::ctl::{Ctl, write_word, zeros};
 use mem_geom::{Dram, page_start, place_range};

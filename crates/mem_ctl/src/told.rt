@@ -5,13 +5,13 @@ ghost use Rattle.mem_slots.specs.Slots.{is_mounted, root_of};
 ghost use Rattle.mem_tree.specs.Paths.{first_break};
 ghost use Rattle.mem_tree.specs.Words.{taken_path, verdict_of};
 ghost use Rattle.mem_ctl.specs.Access.{Leaves};
-ghost use Rattle.mem_ctl.specs.Calls.{root_stands, tell_of, told};
+ghost use Rattle.mem_ctl.specs.Calls.{op_offset, root_stands, tell_of, told};
 ghost use Rattle.mem_ctl.specs.Causes.{IsCauseOfTelling};
 ghost use Rattle.mem_ctl.specs.Laws.{Obeyed};
 ghost use Rattle.mem_ctl.specs.Mounting.{used};
 ghost use Rattle.mem_ctl.specs.Opened.{word_of_taken};
 ghost use Rattle.mem_ctl.specs.Results.{IsCall};
-ghost use Rattle.mem_ctl.specs.Tellings.{IsOpIn, is_whole, op_of, op_offset_of, told_outcome};
+ghost use Rattle.mem_ctl.specs.Tellings.{IsOpIn, is_whole, told_outcome};
 ghost use Rattle.mem_ctl.specs.TreesHold.{IsKept};
 ghost use Rattle.mem_ctl.specs.Writes.{word_at};
 
@@ -49,9 +49,9 @@ impl<D: Digester, F: Fn(&[SlotUse]) -> usize> Ctl<D, F> {
     pub fn tell(&mut self, sealed: &Sealed<D>, op: Op) -> Result<u64, Told>
         requires page { sealed.now.page < 64 * self.old.0.zones }
         requires op { IsOpIn sealed.now.block_no op }
-        ensures call { IsCall (FnReturnsAt F.Fn self.old.1) (tell_of D.digest_of (word_of_taken sealed.now) (op_of op)) self.old.0 (told_outcome result) self.new.0 }
-        ensures word { IfOk result (λ word. word ≡ word_at self.old.0.mirror sealed.now.page (op_offset_of op / 8 * 8)) }
-        ensures pages { OnOk result (Obeyed (word_of_taken sealed.now) (op_of op) self.old.0 self.new.0) }
+        ensures call { IsCall (FnReturnsAt F.Fn self.old.1) (tell_of D.digest_of (word_of_taken sealed.now) op) self.old.0 (told_outcome result) self.new.0 }
+        ensures word { IfOk result (λ word. word ≡ word_at self.old.0.mirror sealed.now.page (op_offset op / 8 * 8)) }
+        ensures pages { OnOk result (Obeyed (word_of_taken sealed.now) op self.old.0 self.new.0) }
         ensures leaves { Leaves D.digest_of self.old.0 self.new.0 }
         ensures refused { OnErr result (self.new.0 ≡ self.old.0) }
         ensures cause { IfErr result (IsCauseOfTelling D.digest_of (word_of_taken sealed.now) self.old.0) }
@@ -100,8 +100,8 @@ impl<D: Digester, F> Ctl<D, F> {
         requires op { IsOpIn sealed.now.block_no op }
         requires mounted { is_mounted self.old.0.mounted (sealed.now.page / 64) ≡ true }
         requires holds { first_break D.digest_of (taken_path sealed.now) ≡ None }
-        requires kept { IsKept D.digest_of (told D.digest_of (word_of_taken sealed.now) (op_of op) self.old.0) }
-        ensures { self.new ≡ (told D.digest_of (word_of_taken sealed.now) (op_of op) self.old.0, self.old.1) }
+        requires kept { IsKept D.digest_of (told D.digest_of (word_of_taken sealed.now) op self.old.0) }
+        ensures { self.new ≡ (told D.digest_of (word_of_taken sealed.now) op self.old.0, self.old.1) }
     {
         match op {
             Op::Read { .. } => {}
@@ -138,7 +138,7 @@ fn is_whole(verdict: Verdict) -> bool
 
 /// Where in its block the eight bytes begin that hold the part.
 fn word_start(op: Op) -> u16
-    ensures { result ≡ op_offset_of op % 64 / 8 * 8 }
+    ensures { result ≡ op_offset op % 64 / 8 * 8 }
 {
     let offset = match op {
         Op::Read { offset } => offset,

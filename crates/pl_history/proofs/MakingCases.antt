@@ -3,6 +3,7 @@ use Rattle.std.proofs.Common.{◌≡◌, ℕ, ◌+◌, ◌*◌, true, false, Lis
 use Rattle.mem_geom.specs.PathPlaces as places
 use Rattle.rv_pmp.specs.Pmp as pmp
 use Rattle.mem_geom.specs.PathPlaces.{page_places}
+use Rattle.pl_base.specs.Bytes.{zero_page}
 use Rattle.pl_base.specs.declared.place.Place.TheVariants.{Block}
 use Rattle.pl_base.specs.declared.refusal.No.{No}
 use Rattle.pl_base.specs.declared.refusal.No.TheVariants as no_is
@@ -11,7 +12,7 @@ use Rattle.pl_history.specs.declared.answer.Answer.TheVariants as answer_is
 use Rattle.pl_history.specs.declared.line.Line.TheVariants.{Create, Grant, Destroy}
 use Rattle.pl_base.specs.Pages.{first_twice}
 use Rattle.pl_base.specs.States.{destroy_refusal}
-use Rattle.pl_history.specs.GivingBack.{drop_refusal, dying, given_back, zeros}
+use Rattle.pl_history.specs.GivingBack.{drop_refusal, dying, given_back}
 use Rattle.pl_history.specs.Legal.{AllowedAnswer, after_answer}
 use Rattle.pl_history.specs.Making.{first_barred, create_refusal, fork_refusal, grant_refusal, building, forking, made, sealed, granted}
 use Rattle.pl_history.specs.Monitor.{host, number, Number, Monitor, free_number, with_number}
@@ -155,7 +156,7 @@ drops = refl
 back : map (given_back (dying state 2) 2).owner (30 ∷ 31 ∷ 20 ∷ []) ≡ (Some (number 1) ∷ Some host ∷ Some host ∷ [])
 back = refl
 
-zeroed : map (given_back (dying state 2) 2).bytes (31 ∷ 20 ∷ []) ≡ (zeros ∷ state.bytes 20 ∷ [])
+zeroed : map (given_back (dying state 2) 2).bytes (31 ∷ 20 ∷ []) ≡ (zero_page ∷ state.bytes 20 ∷ [])
 zeroed = refl
 
 free_again : (given_back (dying state 2) 2).number 2 ≡ free_number

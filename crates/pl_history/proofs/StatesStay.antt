@@ -43,78 +43,38 @@ EachStays s = EachIs (Stays s) (StaysUnless s)
 as_it_was : (s : Monitor) → Stays s s
 as_it_was s = record { progress = refl; attacks = refl }
 
-none_changes : (s : Monitor) → EachStays s (unchanged s)
-none_changes s = record {
-  begun = as_it_was s;
-  ok = as_it_was s;
+-- the states that the answers to a hart's line may give, where those after a value, a write and a keeping are as they were
+some_change : (s begun ok word refused : Monitor) (left : ℕ → Why → Monitor) → Stays s begun → Stays s ok → Stays s word → Stays s refused → ((count : ℕ) (why : Why) → Stays s (left count why))
+    → EachStays s (record (unchanged s) { begun = begun; ok = ok; word = word; no = refused; left = left })
+some_change s begun ok word refused left b o w n l = record {
+  begun = b;
+  ok = o;
   value = as_it_was s;
-  word = as_it_was s;
-  left = λ count why. as_it_was s;
-  no = as_it_was s;
+  word = w;
+  left = l;
+  no = n;
   wrote = λ changed pa. record { progress = refl; attacks = λ is. refl };
   kept = as_it_was s;
 }
 
--- lines whose answers change one state, or two
-ok_changes : (s t : Monitor) → Stays s t → EachStays s (record (unchanged s) { ok = t })
-ok_changes s t stays = record {
-  begun = as_it_was s;
-  ok = stays;
-  value = as_it_was s;
-  word = as_it_was s;
-  left = λ count why. as_it_was s;
-  no = as_it_was s;
-  wrote = λ changed pa. record { progress = refl; attacks = λ is. refl };
-  kept = as_it_was s;
-}
+module _ (s : Monitor) where
+  none_changes : EachStays s (unchanged s)
+  none_changes = some_change s s s s s (λ count why. s) (as_it_was s) (as_it_was s) (as_it_was s) (as_it_was s) (λ count why. as_it_was s)
 
-begins_and_ends : (s t v : Monitor) → Stays s t → Stays s v → EachStays s (record (unchanged s) { begun = t; ok = v })
-begins_and_ends s t v begun ok = record {
-  begun = begun;
-  ok = ok;
-  value = as_it_was s;
-  word = as_it_was s;
-  left = λ count why. as_it_was s;
-  no = as_it_was s;
-  wrote = λ changed pa. record { progress = refl; attacks = λ is. refl };
-  kept = as_it_was s;
-}
+  ok_changes : (t : Monitor) → Stays s t → EachStays s (record (unchanged s) { ok = t })
+  ok_changes t stays = some_change s s t s s (λ count why. s) (as_it_was s) stays (as_it_was s) (as_it_was s) (λ count why. as_it_was s)
 
-makes : (s t v x : Monitor) → Stays s t → Stays s v → Stays s x → EachStays s (record (unchanged s) { begun = t; ok = v; no = x })
-makes s t v x begun ok refused = record {
-  begun = begun;
-  ok = ok;
-  value = as_it_was s;
-  word = as_it_was s;
-  left = λ count why. as_it_was s;
-  no = refused;
-  wrote = λ changed pa. record { progress = refl; attacks = λ is. refl };
-  kept = as_it_was s;
-}
+  begins_and_ends : (begun ok : Monitor) → Stays s begun → Stays s ok → EachStays s (record (unchanged s) { begun = begun; ok = ok })
+  begins_and_ends begun ok b o = some_change s begun ok s s (λ count why. s) b o (as_it_was s) (as_it_was s) (λ count why. as_it_was s)
 
-runs : (s t : Monitor) (gives : ℕ → Why → Monitor) → Stays s t → ((count : ℕ) (why : Why) → Stays s (gives count why)) → EachStays s (record (unchanged s) { begun = t; left = gives })
-runs s t gives begun left = record {
-  begun = begun;
-  ok = as_it_was s;
-  value = as_it_was s;
-  word = as_it_was s;
-  left = left;
-  no = as_it_was s;
-  wrote = λ changed pa. record { progress = refl; attacks = λ is. refl };
-  kept = as_it_was s;
-}
+  makes : (begun ok refused : Monitor) → Stays s begun → Stays s ok → Stays s refused → EachStays s (record (unchanged s) { begun = begun; ok = ok; no = refused })
+  makes begun ok refused b o n = some_change s begun ok s refused (λ count why. s) b o (as_it_was s) n (λ count why. as_it_was s)
 
-gives_word : (s t : Monitor) → Stays s t → EachStays s (record (unchanged s) { word = t })
-gives_word s t word = record {
-  begun = as_it_was s;
-  ok = as_it_was s;
-  value = as_it_was s;
-  word = word;
-  left = λ count why. as_it_was s;
-  no = as_it_was s;
-  wrote = λ changed pa. record { progress = refl; attacks = λ is. refl };
-  kept = as_it_was s;
-}
+  runs : (begun : Monitor) (left : ℕ → Why → Monitor) → Stays s begun → ((count : ℕ) (why : Why) → Stays s (left count why)) → EachStays s (record (unchanged s) { begun = begun; left = left })
+  runs begun left b l = some_change s begun s s s left b (as_it_was s) (as_it_was s) (as_it_was s) l
+
+  gives_word : (t : Monitor) → Stays s t → EachStays s (record (unchanged s) { word = t })
+  gives_word t stays = some_change s s s t s (λ count why. s) (as_it_was s) (as_it_was s) stays (as_it_was s) (λ count why. as_it_was s)
 
 written_stays : (s : Monitor) (now : Placed) (changed : Bool) → StaysUnless s changed (written s now changed)
 written_stays s now true = record { progress = refl; attacks = λ is. cc }

@@ -1,6 +1,7 @@
 -- Giving back an enclave's pages, and a shadow's: `destroy` and `drop`.
-use Rattle.std.specs.Prelude.{ℕ, ◌==◌, Bool, false, not, if◌then◌else◌, List, [], ◌∷◌, find, replicate, Option, Some, None, option_map}
+use Rattle.std.specs.Prelude.{ℕ, ◌==◌, Bool, false, not, if◌then◌else◌, List, [], ◌∷◌, find, Option, Some, None, option_map}
 use Rattle.std.specs.List.{range_with_len}
+use Rattle.pl_base.specs.Bytes.{zero_page}
 use Rattle.pl_base.specs.Pages.{is_among}
 use Rattle.pl_base.specs.Refusals.{refuse, first_refusal}
 use Rattle.pl_base.specs.States.{destroy_refusal, is_sealed}
@@ -41,13 +42,9 @@ AllowedDrop setup s e = AtOnce (drop_refusal setup s e) (Some answer_is.Ok)
 abbrev pub dying : Monitor → ℕ → Monitor
 dying s e = with_number s e (record (s.number e) { state = Dying; live = false })
 
--- a page of zeros
-unfoldable pub zeros : List ℕ
-zeros = replicate 4096 0
-
 -- all pages that the number took are zeroed pages of the host, and the number is free
 abbrev pub given_back : Monitor → ℕ → Monitor
 given_back s e =
     let pages = pages_taken (s.number e) in
     let free = with_owner (with_number s e (freed (s.number e))) pages host in
-    record free { bytes = λ page. if is_among pages page then zeros else s.bytes page }
+    record free { bytes = λ page. if is_among pages page then zero_page else s.bytes page }

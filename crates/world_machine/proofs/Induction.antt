@@ -27,30 +27,14 @@ use Rattle.world_machine.proofs.BeginRunRows.{begin_run_kept}
 use Rattle.world_machine.proofs.CreateRows.{begin_create_kept}
 use Rattle.world_machine.proofs.PutRows.{put_next_kept}
 use Rattle.world_machine.proofs.QuietRows.{answers_kept}
+use Rattle.world_machine.proofs.RowKept.{beside_kept}
 use Rattle.world_machine.proofs.RunEvents.{runs_kept}
 use Rattle.world_machine.proofs.SetupFacts.{line_names}
 use Rattle.world_machine.proofs.WordRows.{send_kept, take_kept}
 
 -- counting a move changes no part
 counted_kept : (digest_of : List ℕ → List ℕ) (w : WorldData) → Kept digest_of w → Kept digest_of (counted w)
-counted_kept digest_of w k = record {
-  sizes = k.sizes;
-  trees = k.trees;
-  legal = k.legal;
-  parts = k.parts;
-  room = k.room;
-  stands = record {
-    owners = k.stands.owners;
-    records = k.stands.records;
-    progress = k.stands.progress;
-    enclaves = k.stands.enclaves;
-    host = k.stands.host;
-    attacks = k.stands.attacks;
-    lines = k.stands.lines;
-    apart = k.stands.apart;
-  };
-  collision = k.collision;
-}
+counted_kept digest_of w k = beside_kept digest_of w w.collision (counted w).moves k k.collision
 
 -- a turn that moves leaves a world that keeps all parts
 abbrev KeptTurn : (List ℕ → List ℕ) → Turn → Type 0

@@ -149,10 +149,10 @@ module _ (digest_of : List ℕ → List ℕ) (w : WorldData) (actor : ℕ) (ctl 
     collision = subst (CollisionStands digest_of w.setup.zones (state_of new).attacks) (sym none) tt;
   }
 
--- a kept collision joins what is kept
-pub collision_kept : (digest_of : List ℕ → List ℕ) (w : WorldData) (c : CollisionData) → Kept digest_of w → IsCollision digest_of w.setup.zones (state_of w).attacks c
-    → Kept digest_of (record w { collision = Some c })
-collision_kept digest_of w c k is = record {
+-- the kept collision and the count of moves are no part of what else is kept
+pub beside_kept : (digest_of : List ℕ → List ℕ) (w : WorldData) (o : Option CollisionData) (moves : ℕ) → Kept digest_of w → CollisionStands digest_of w.setup.zones (state_of w).attacks o
+    → Kept digest_of (record w { collision = o; moves = moves })
+beside_kept digest_of w o moves k is = record {
   sizes = k.sizes;
   trees = k.trees;
   legal = k.legal;
@@ -170,6 +170,11 @@ collision_kept digest_of w c k is = record {
   };
   collision = is;
 }
+
+-- a kept collision joins what is kept
+pub collision_kept : (digest_of : List ℕ → List ℕ) (w : WorldData) (c : CollisionData) → Kept digest_of w → IsCollision digest_of w.setup.zones (state_of w).attacks c
+    → Kept digest_of (record w { collision = Some c })
+collision_kept digest_of w c k is = beside_kept digest_of w (Some c) w.moves k is
 
 -- ---- bytes that differ
 

@@ -10,16 +10,17 @@ use Rattle.mem_tree.specs.Checks.{check, Holds as AllHold}
 use Rattle.mem_tree.specs.Paths.{first_break}
 use Rattle.mem_tree.specs.Words.{taken_path}
 use Rattle.mem_ctl.specs.declared.told.Told.TheVariants as told_is
-use Rattle.mem_ctl.specs.Calls.{TakenWord, WordOp, op_offset, path_in, root_stands, tell_of, told}
+use Rattle.mem_ctl.specs.declared.told.Op.{Op}
+use Rattle.mem_ctl.specs.Calls.{TakenWord, op_offset, path_in, root_stands, tell_of, told}
 use Rattle.mem_ctl.specs.Data.{CtlData, Again, Outcome, Value}
 use Rattle.mem_ctl.specs.Mounting.{used, written}
 use Rattle.mem_ctl.specs.Opened.{word_of_taken}
 use Rattle.mem_ctl.specs.Results.{IsCall, checked_of}
-use Rattle.mem_ctl.specs.Tellings.{op_of, told_outcome}
+use Rattle.mem_ctl.specs.Tellings.{told_outcome}
 use Rattle.mem_ctl.specs.TreesHold.{IsKept}
 use Rattle.mem_ctl.specs.Writes.{word_at}
 use Rattle.mem_ctl.proofs.CallTells.{cause_of_telling, tell_tells}
-use Rattle.mem_ctl.proofs.TellLemmas.{not_stale, same_offset, stale, stands-mounted, tell_again, tell_gives, tell_refused, told-kept, told-mounted, told_broken, told_holds, told_stands}
+use Rattle.mem_ctl.proofs.TellLemmas.{not_stale, stale, stands-mounted, tell_again, tell_gives, tell_refused, told-kept, told-mounted, told_broken, told_holds, told_stands}
 use Rattle.mem_ctl.proofs.ctl.Ctl.tell.Given.{Over}
 use Rattle.mem_ctl.proofs.ctl.Ctl.tell.Goals as goal
 
@@ -29,7 +30,7 @@ returns-then-is_stale g c =
     let s = c.args.sealed.now in
     let x : CtlData = c.args.self.now.0 in
     let t : TakenWord = word_of_taken s in
-    let o : WordOp = op_of c.args.op in
+    let o : Op = c.args.op in
     let gives : List SlotUse → ℕ → Type 0 = FnReturnsAt g.F.Fn c.args.self.now.1 in
     let kept : IsKept d x = subst (λ v. IsKept d v.0) c.self.view_is c.self.invariant in
     let h = stale (first_break d (taken_path s)) (root_stands s.root (root_of x.mounted (s.page / 64))) (sym c.is_stale.ensures ∙ c.if-is_stale.true) in
@@ -49,7 +50,7 @@ returns-in-Err g c =
     let x : CtlData = c.args.self.now.0 in
     let i = c.self.inside in
     let t : TakenWord = word_of_taken s in
-    let o : WordOp = op_of c.args.op in
+    let o : Op = c.args.op in
     let gives : List SlotUse → ℕ → Type 0 = FnReturnsAt g.F.Fn c.args.self.now.1 in
     let kept : IsKept d x = subst (λ v. IsKept d v.0) c.self.view_is c.self.invariant in
     let stands = not_stale (first_break d (taken_path s)) (root_stands s.root (root_of x.mounted (s.page / 64))) (sym c.is_stale.ensures ∙ c.if-is_stale.false) in
@@ -88,7 +89,7 @@ obey-requires-clause-kept g c =
     let d = g.D.Digester.digest_of in
     let kept : IsKept d c.args.self.now.0 = subst (λ v. IsKept d v.0) c.self.view_is c.self.invariant in
     let held = check_held g c in
-    told-kept d g.met.D.Digester.digest_length c.args.self.now.0 kept (word_of_taken c.args.sealed.now) c.requires.page c.taken-taken.ensures.in_range.block held.1 held.0 (op_of c.args.op) c.requires.op
+    told-kept d g.met.D.Digester.digest_length c.args.self.now.0 kept (word_of_taken c.args.sealed.now) c.requires.page c.taken-taken.ensures.in_range.block held.1 held.0 c.args.op c.requires.op
 
 pub count-requires : goal.count-requires
 count-requires g c =
@@ -97,7 +98,7 @@ count-requires g c =
     let x : CtlData = c.args.self.now.0 in
     let i = c.self.inside in
     let t : TakenWord = word_of_taken s in
-    let o : WordOp = op_of c.args.op in
+    let o : Op = c.args.op in
     let kept : IsKept d x = subst (λ v. IsKept d v.0) c.self.view_is c.self.invariant in
     let is : AllHold ≡ check d (taken_path s) (place_bytes i.zones i.mirror) = search rules in
     let holds : AllHold ≡ check d (path_in t) (written x) = is ∙ ap (λ v. check d (taken_path s) (written v.0)) c.self.view_is in
@@ -112,7 +113,7 @@ returns g c =
     let x : CtlData = c.args.self.now.0 in
     let i = c.self.inside in
     let t : TakenWord = word_of_taken s in
-    let o : WordOp = op_of c.args.op in
+    let o : Op = c.args.op in
     let gives : List SlotUse → ℕ → Type 0 = FnReturnsAt g.F.Fn c.args.self.now.1 in
     let kept : IsKept d x = subst (λ v. IsKept d v.0) c.self.view_is c.self.invariant in
     let is : AllHold ≡ check d (taken_path s) (place_bytes i.zones i.mirror) = search rules in
@@ -120,7 +121,7 @@ returns g c =
     let stands = told_stands d x t holds (sym c.is_stale.ensures ∙ c.if-is_stale.false) in
     let word : c.word_in-word.result ≡ little_number 8 (bytes_at s.block (op_offset o % 64 / 8 * 8) 8) =
     c.word_in-word.ensures ∙ ap (λ q. little_number 8 (bytes_at q.block c.word_start.result 8)) c.taken-taken.ensures.taken
-    ∙ ap (λ (k : ℕ). little_number 8 (bytes_at s.block k 8)) (c.word_start.ensures ∙ ap (λ (k : ℕ). k % 64 / 8 * 8) (same_offset c.args.op)) in
+    ∙ ap (λ (k : ℕ). little_number 8 (bytes_at s.block k 8)) c.word_start.ensures in
     let after : CtlData = c.count.new.self.0 in
     let new : after ≡ used (told d t o x) (s.page / 64) =
     ap (λ v. v.0) c.count.ensures ∙ ap (λ v. used v.0 (c.taken-taken.result.now.page / 64)) c.obey.ensures ∙ ap (λ q. used (told d t o x) (q.page / 64)) c.taken-taken.ensures.taken in
@@ -130,7 +131,7 @@ returns g c =
     let all = tell_tells gives d g.met.D.Digester.digest_length x kept t o c.requires.page c.taken-taken.ensures.in_range.block c.requires.op (Value c.word_in-word.result) after call in
     record {
       call = call;
-      word = all.tells.as_written ∙ ap (λ (k : ℕ). word_at x.mirror s.page (k / 8 * 8)) (sym (same_offset c.args.op));
+      word = all.tells.as_written;
       pages = all.tells.pages;
       leaves = all.leaves;
       refused = tt;
