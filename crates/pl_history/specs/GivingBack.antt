@@ -1,5 +1,5 @@
 -- Giving back an enclave's pages, and a shadow's: `destroy` and `drop`.
-use Rattle.std.specs.Prelude.{ℕ, ◌==◌, Bool, false, not, if◌then◌else◌, List, [], ◌∷◌, find, Option, Some, None, option_map}
+use Rattle.std.specs.Prelude.{ℕ, ◌==◌, Bool, false, not, if◌then◌else◌, [], ◌∷◌, find, Option, Some, None, option_map}
 use Rattle.std.specs.List.{range_with_len}
 use Rattle.pl_base.specs.Bytes.{zero_page}
 use Rattle.pl_base.specs.Pages.{is_among}

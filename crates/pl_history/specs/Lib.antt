@@ -1,4 +1,5 @@
 pub mod Rules
+pub mod OwnedPages
 pub mod Protection
 pub mod Monitor
 pub mod NumberSpace

@@ -1,4 +1,5 @@
 // Laws of histories.
+ghost use Rattle.pl_history.specs.OwnedPages.{LegalPages};
 ghost use Rattle.pl_history.specs.Laws.{OneMoreIsLegal, OneMoreGives, MoreBytesLeaveLegal, MoreBytesLeaveState, AnswersMoveOneActor, LinesBeginOnce, UnattackedIsFaultless};
 
 /// A history grows by one entry at a time: it stays legal where that entry is allowed, and the state that it gives is the one after it.
@@ -26,4 +27,11 @@ pub fn answers_move_one_actor()
 #[tactic(auto, using(crate::proofs::Unattacked::unattacked_is_faultless))]
 pub fn faults_need_an_attack()
     ensures { UnattackedIsFaultless }
+{}
+
+/// In a legal history each page that the host maps, or whose mapping it is removing, is the host's, and each page that a number took is
+/// this number's: no page belongs to two numbers, and no access of the host reaches a number's page.
+#[tactic(auto, using(crate::proofs::OwnedPages::legal_pages))]
+pub fn pages_have_one_owner()
+    ensures { LegalPages }
 {}

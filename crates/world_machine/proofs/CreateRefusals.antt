@@ -19,6 +19,7 @@ use Rattle.pl_history.specs.declared.setup.SetupParts.{SetupParts}
 use Rattle.pl_history.specs.Making as monitor
 use Rattle.pl_history.specs.Monitor.{Monitor, is_host, maps_of}
 use Rattle.pl_history.specs.Protection.{pmp_of}
+use Rattle.pl_history.proofs.Refusals.{first_none, named_none, refuse_none}
 use Rattle.world_machine.specs.Making.{image_of}
 use Rattle.world_machine.specs.RecordsAgree.{OwnersAgree, owner_of}
 
@@ -98,18 +99,6 @@ pub record MayCreate (setup : SetupParts) (s : Monitor) (e image : ℕ) (pages :
   pub count : length pages ≡ monitor.image_page_count setup image
   pub apart : first_twice pages ≡ None
 
-first_none : (x : Option No) (later : List (Option No)) → first_refusal (x ∷ later) ≡ None → (x ≡ None) × (first_refusal later ≡ None)
-first_none None later e = (refl, e)
-first_none (Some cause) later e = cc
-
-refuse_none : (test : Bool) (cause : No) → refuse (not test) cause ≡ None → test ≡ true
-refuse_none true cause e = refl
-refuse_none false cause e = cc
-
-twice_none : (o : Option ℕ) → option_map Twice o ≡ None → o ≡ None
-twice_none None e = refl
-twice_none (Some x) e = cc
-
 pub may_create : (setup : SetupParts) (s : Monitor) (e image : ℕ) (pages : List ℕ) → monitor.create_refusal setup s e image pages ≡ None → MayCreate setup s e image pages
 may_create setup s e image pages none =
     let first = first_none (refuse (not (is_free (s.number e).state)) Exists) _ none in
@@ -118,5 +107,5 @@ may_create setup s e image pages none =
     record {
       free = refuse_none (is_free (s.number e).state) Exists first.0;
       count = eqb-true _ _ (refuse_none (eqb (length pages) (monitor.image_page_count setup image)) Count second.0);
-      apart = twice_none (first_twice pages) third.0;
+      apart = named_none Twice (first_twice pages) third.0;
     }
