@@ -1,6 +1,7 @@
 -- What a run's status says of the whole call; what a command that runs nothing says doesn't depend on the rules that name the slot to evict.
-use Rattle.std.proofs.Common.{ℕ, List, Ok, Err, inl, inr, refl, sym, subst}
+use Rattle.std.proofs.Common.{ℕ, List, Option, Ok, Err, inl, inr, refl, sym, subst}
 use Rattle.sha2.specs.Sha256.{sha256}
+use Rattle.toml.specs.declared.de.error.Error.{Error}
 use Rattle.pl_history.specs.declared.setup.SetupParts.{SetupParts}
 use Rattle.pl_history.specs.declared.setup.ChoiceName.{ChoiceName}
 use Rattle.world_machine.specs.declared.turned.Finished.{Finished}
@@ -12,7 +13,7 @@ use Rattle.penglai_main.specs.declared.unread.Unread.{Unread}
 use Rattle.penglai_main.specs.declared.unread.Unread.TheVariants as unread
 use Rattle.penglai_main.specs.Ends.{Ends}
 use Rattle.penglai_main.specs.Play.{Gives, RunEnds, run_text}
-use Rattle.penglai_main.specs.Top.{Explains, IsOutput, IsRefusal, MayWrite, bad_setup_text, runnable_of}
+use Rattle.penglai_main.specs.Top.{CauseFits, Explains, IsOutput, IsRefusal, MayWrite, bad_setup_text, runnable_of}
 use Rattle.penglai_main.specs.Unread.{Declines, Obtains, Refuses}
 
 module _ (gives other : ChoiceName → Gives) (source sink : Ends) where
@@ -52,21 +53,23 @@ module _ (gives : ChoiceName → Gives) (source sink : Ends) where
   explained setup (status_is.BadSetup rule item cause) read k = absurd k.1
 
   -- a refused setup
-  refused : (rule item : ℕ) (status : Status) → IsRefusal Solo source rule item (bad_setup_text rule item) → Refuses sink rule item status → Explains gives Solo source sink status
-  refused rule item (status_is.BadSetup r i cause) is k = (
+  refused : (rule item : ℕ) (cause : Option Error) (status : Status) → IsRefusal Solo source rule item (bad_setup_text rule item) → CauseFits rule item cause → Refuses sink rule item cause status
+      → Explains gives Solo source sink status
+  refused rule item cause (status_is.BadSetup r i told) is fits k = (
     bad_setup_text rule item,
     subst (λ n. IsRefusal Solo source n i (bad_setup_text rule item)) (sym k.0) (subst (λ n. IsRefusal Solo source rule n (bad_setup_text rule item)) (sym k.1) is),
-    k.2,
+    k.3,
+    subst (λ n. CauseFits n i told) (sym k.0) (subst (λ n. CauseFits rule n told) (sym k.1) (subst (CauseFits rule item) (sym k.2) fits)),
   )
-  refused rule item status_is.WriteFault is k = (k.0, (bad_setup_text rule item, inr (rule, item, is), k.1))
-  refused rule item status_is.Done is k = absurd k
-  refused rule item status_is.BadWords is k = absurd k
-  refused rule item status_is.ReadFault is k = absurd k
-  refused rule item status_is.NoMemory is k = absurd k
-  refused rule item status_is.Collision is k = absurd k
-  refused rule item status_is.Stuck is k = absurd k
+  refused rule item cause status_is.WriteFault is fits k = (k.0, (bad_setup_text rule item, inr (rule, item, is), k.1))
+  refused rule item cause status_is.Done is fits k = absurd k
+  refused rule item cause status_is.BadWords is fits k = absurd k
+  refused rule item cause status_is.ReadFault is fits k = absurd k
+  refused rule item cause status_is.NoMemory is fits k = absurd k
+  refused rule item cause status_is.Collision is fits k = absurd k
+  refused rule item cause status_is.Stuck is fits k = absurd k
 
   pub declined : (why : Unread) (status : Status) → Obtains runnable_of source (Err why) → Declines sink why status → Explains gives Solo source sink status
   declined unread.Memory status read k = subst (Explains gives Solo source sink) (sym k.0) k.1
   declined unread.ReadFault status read k = subst (Explains gives Solo source sink) (sym k.0) (read, k.1)
-  declined (unread.Bad rule item cause) status read k = refused rule item status (record { reads = read; text_is = refl }) k
+  declined (unread.Bad rule item cause) status read k = refused rule item cause status (record { reads = read.0; text_is = refl }) read.1 k

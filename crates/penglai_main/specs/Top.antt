@@ -1,11 +1,12 @@
 -- What the top call read and wrote, for each status that it ends with. The counts of faults and the bytes are those of
 -- the source and the sink that it was handed, where these tell them.
-use Rattle.std.specs.Prelude.{◌≡◌, ◌⊎◌, ℕ, List, [], ◌∷◌, ◌++◌, codes, decimal, Option, Some, None, Ok, Err, if◌then◌else◌}
+use Rattle.std.specs.Prelude.{◌≡◌, ◌⊎◌, ⊤, ℕ, List, [], ◌∷◌, ◌++◌, codes, decimal, Option, Some, None, Ok, Err, if◌then◌else◌}
 use Rattle.std.specs.Str.{bytes_eq}
 use Rattle.pl_history.specs.declared.setup.SetupParts.{SetupParts}
 use Rattle.pl_history.specs.declared.setup.ChoiceName.{ChoiceName}
 use Rattle.pl_history.specs.declared.setup.ChoiceName.TheVariants as choice_is
 use Rattle.sha2.specs.Sha256.{sha256}
+use Rattle.toml.specs.declared.de.error.Error.{Error}
 use Rattle.world_machine.specs.declared.turned.Finished.{Finished}
 use Rattle.world_machine.specs.declared.turned.Finished.TheVariants as finished
 use Rattle.world_machine.specs.Unbuilt.{first_unbuilt_of}
@@ -79,6 +80,11 @@ pub record IsRefusal (command : Command) (source : Ends) (rule item : ℕ) (text
   pub reads : Reads (taken_of command) source (Err (rule, item))
   pub text_is : text ≡ bad_setup_text rule item
 
+-- the parser's cause comes with rule 2 alone, of a text that isn't TOML
+abbrev pub CauseFits : ℕ → ℕ → Option Error → Type 0
+CauseFits rule item None = ⊤
+CauseFits rule item (Some cause) = (rule ≡ 2) × (item ≡ 0)
+
 -- what may be written
 abbrev pub MayWrite : (ChoiceName → Gives) → Command → Ends → List ℕ → Type 0
 MayWrite gives command source text =
@@ -94,7 +100,8 @@ Explains gives command source sink status_is.Done = IsWhole gives command finish
 Explains gives command source sink status_is.BadWords = ⊥
 Explains gives command source sink status_is.ReadFault = Failed source × WritesNothing sink
 Explains gives command source sink status_is.WriteFault = Failed sink × ((text : List ℕ) × MayWrite gives command source text × WritesPrefix sink text)
-Explains gives command source sink (status_is.BadSetup rule item cause) = (text : List ℕ) × IsRefusal command source rule item text × Writes sink text
+Explains gives command source sink (status_is.BadSetup rule item cause) =
+    (text : List ℕ) × IsRefusal command source rule item text × Writes sink text × CauseFits rule item cause
 Explains gives command source sink status_is.NoMemory = WritesNothing sink
 Explains gives command source sink status_is.Collision = IsWhole gives command finished.Collision source sink
 Explains gives command source sink status_is.Stuck = IsWhole gives command finished.Stuck source sink

@@ -1,5 +1,5 @@
 // The rules that the top call tries, in words.
-ghost use Rattle.std.specs.Prelude.{◌≡◌, ◌≤◌, IsSome};
+ghost use Rattle.std.specs.Prelude.{◌≡◌, ◌≤◌, ◌↔◌, ◌⊎◌, IsSome};
 
 use world_setup::RuleText;
 
@@ -11,8 +11,7 @@ const BUILT: RuleText = RuleText {
 
 /// The rule of this number in words, where there is one.
 pub fn rule_text(rule: u8) -> Option<RuleText>
-    ensures of_setups { 1 ≤ rule → rule ≤ 24 → IsSome result }
-    ensures of_runs { rule ≡ 99 → IsSome result }
+    ensures { IsSome result ↔ (((1 ≤ rule) × (rule ≤ 24)) ⊎ (rule ≡ 99)) }
 {
     match rule {
         99 => Some(BUILT),

@@ -95,7 +95,7 @@ fn put_bad_setup<K: Sink>(sink: &mut K, rule: u8, item: u32) -> Result<(), Faile
 
 // Says that a setup is refused.
 fn refuse<K: Sink>(sink: &mut K, rule: u8, item: u32, cause: Option<Error>) -> Status
-    ensures { Refuses (ends K.written K.faults sink.old sink.new) rule item result }
+    ensures { Refuses (ends K.written K.faults sink.old sink.new) rule item cause result }
 {
     match put_bad_setup(sink, rule, item) {
         Ok(()) => Status::BadSetup { rule, item, cause },
