@@ -1,3 +1,4 @@
+pub mod Laws
 pub mod Leaves
 pub mod Mapping
 pub mod Unmapping
