@@ -1,5 +1,5 @@
--- What the events of `map` and `unmap` answer, leave and come to, over plain data, for every digest function with digests of 32 bytes and any
--- positions.
+-- What the events of `map` and `unmap` answer, leave and come to, over plain data, for every digest function with digests of 32 bytes and
+-- any positions.
 use Rattle.std.specs.Prelude.{ℕ, ◌≡◌, ◌↔◌, ◌+◌, ◌-◌, ◌*◌, ◌/◌, ◌%◌, ◌^◌, ◌<◌, ◌≤◌, true, not, IsTrue, List, [], ◌∷◌, ◌++◌, All, Any, Option, Some, None, is_some, Result, Ok, Err}
 use Rattle.byteorder.specs.Endian.{little_bytes}
 use Rattle.pl_base.specs.Address.{vpn_of}
@@ -53,8 +53,8 @@ places_of slot = word_places slot.0 (slot.1 / 64)
 abbrev pub WordChanges : ℕ × ℕ → ℕ → CtlData → CtlData → Type 0
 WordChanges slot word = BothChange slot.0 (λ bytes. with_bytes bytes slot.1 (little_bytes 8 word))
 
--- an event is done where nothing refuses it by the word that stood there, and changes that word alone; where it is refused by that word, all
--- pages stay
+-- an event is done where nothing refuses it by the word that stood there, and changes that word alone; where it is refused by that word,
+-- all pages stay
 abbrev pub WordTells : {A : Type 0} → ℕ × ℕ → (ℕ → Option No) → ℕ → (ℕ → A) → CtlData → CtlData → Result A No → Type 0
 WordTells slot refusal word value old new (Ok a) = (refusal (word_in old slot) ≡ None) × (a ≡ value (word_in old slot)) × WordChanges slot word old new
 WordTells slot refusal word value old new (Err cause) = (refusal (word_in old slot) ≡ Some cause) × BothStay old new

@@ -22,8 +22,8 @@ const WORD_BYTES: u8 = 8;
 
 /// Maps a page of the host at an address, and counts the mapping.
 ///
-/// Refused in this order: `BadAddress`, `Busy`, a fault of the read, `Mapped`, `NotYours` with the page, a fault of the write. A refusal maps
-/// and counts nothing; what the read and the write did to the slots stays.
+/// Refused in this order: `BadAddress`, `Busy`, a fault of the read, `Mapped`, `NotYours` with the page, a fault of the write. A refusal
+/// maps and counts nothing; what the read and the write did to the slots stays.
 pub fn map<D: Digester, F: Fn(&[SlotUse]) -> usize>(
     ctl: &mut Ctl<D, F>,
     owners: &mut Owners,
