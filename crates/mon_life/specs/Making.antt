@@ -1,5 +1,5 @@
 -- The first event of `create` and `shadow`: why it is refused, or the number is being built and all pages are its own.
-use Rattle.std.specs.Prelude.{ℕ, ◌==◌, Bool, true, false, not, if◌then◌else◌, List, [], ◌∷◌, length, find, Option, Some, None, option_map}
+use Rattle.std.specs.Prelude.{ℕ, ◌==◌, Bool, not, if◌then◌else◌, List, [], ◌∷◌, length, find, Option, Some, None, option_map}
 use Rattle.pl_base.specs.declared.refusal.No.{No}
 use Rattle.pl_base.specs.declared.refusal.No.TheVariants.{Exists, Count, Twice, NotYours, StillMapped, Barred}
 use Rattle.pl_base.specs.Pages.{first_twice}
@@ -10,16 +10,12 @@ use Rattle.rv_pmp.specs.Pmp.{page_allowed}
 use Rattle.mon_image.specs.declared.image.Image.{Image}
 use Rattle.mon_owner.specs.declared.owners.Owner.{Owner}
 use Rattle.mon_owner.specs.declared.owners.Owner.TheVariants as owner
+pub use Rattle.mon_owner.specs.Owners.{is_host}
 use Rattle.mon_owner.specs.Owners.{given_to, is_mapped, owner_at}
 use Rattle.mon_enclave.specs.declared.enclave.Enclave.{Enclave}
 use Rattle.mon_enclave.specs.Records.{built, enclave_at, with_enclave}
 
 -- ---- the refusals
-
--- a page of the host, mapped or not
-abbrev pub is_host : Owner → Bool
-is_host (owner.Host maps) = true
-is_host _ = false
 
 -- the first page in a list that isn't the host's; past the pool none is
 abbrev pub first_not_host : List Owner → List ℕ → Option ℕ

@@ -1,5 +1,5 @@
 -- The owners of all pages as a list: that of page p stands at place p.
-use Rattle.std.specs.Prelude.{ℕ, ◌+◌, ◌-◌, ◌^◌, nat_lt, Bool, false, if◌then◌else◌, List, ◌++◌, length, map, replicate, slice_get, unwrap_or}
+use Rattle.std.specs.Prelude.{ℕ, ◌+◌, ◌-◌, ◌^◌, nat_lt, Bool, true, false, if◌then◌else◌, List, ◌++◌, length, map, replicate, slice_get, unwrap_or}
 use Rattle.std.specs.List.{range_with_len}
 use Rattle.pl_base.specs.Pages.{is_among}
 use Rattle.mon_owner.specs.declared.owners.Owner.{Owner}
@@ -16,6 +16,11 @@ owner_at owners page = unwrap_or (slice_get owners page) Guard
 -- these pages have this owner, and each other page its own
 unfoldable pub given_to : List Owner → List ℕ → Owner → List Owner
 given_to owners pages to = map (λ page. if is_among pages page then to else owner_at owners page) (range_with_len 0 (length owners))
+
+-- a page of the host, mapped or not
+abbrev pub is_host : Owner → Bool
+is_host (Host maps) = true
+is_host _ = false
 
 -- a host page with fewer mappings than may be counted
 abbrev pub may_be_mapped : Owner → Bool

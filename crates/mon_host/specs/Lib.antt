@@ -1,0 +1,10 @@
+pub mod Laws
+pub mod Leaves
+pub mod Mapping
+pub mod Unmapping
+pub use Rattle.mem_ctl.specs.Stops
+pub use Rattle.mem_slots.specs.Choices
+pub use Rattle.mon_fence.specs.Fences
+pub use Rattle.mon_owner.specs.Owners
+pub use Rattle.mon_tables.specs.Words
+pub use Rattle.pl_base.specs.Perms

@@ -1,0 +1,13 @@
+//! The monitor's events of the host's mappings: `map` sets a leaf of the host's tables; `unmap` clears one, waits for all harts, and ends.
+//!
+//! `map` is one event. `unmap` begins by `unmap_begin`, which posts a fence, and ends by `unmap_end` once nobody is lacking.
+#![tactic(auto)]
+
+mod laws;
+mod leaves;
+mod mapping;
+mod unmapping;
+
+pub use laws::{maps_tell, spaces_have_leaves, unmaps_tell};
+pub use mapping::map;
+pub use unmapping::{unmap_begin, unmap_end};
