@@ -32,6 +32,17 @@ AllAllowed-append setup bytes s before (x ∷ xs) ys p q = (
       (subst (λ b. AllAllowed setup bytes (state_after setup bytes s (x ∷ xs)) b ys) (sym (append_assoc before (x ∷ []) xs)) q),
 )
 
+-- what each answer leaves of a state holds after all of them
+pub holds_after : (setup : SetupParts) (bytes : List ℕ) (Holds : Monitor → Type 0)
+    → ((s : Monitor) (before : List Entry) (entry : Entry) (line : ActorLine) → Holds s → AllowedLine setup bytes s before line (s.progress entry.actor).begun entry.answer
+    → Holds (after_line s entry.actor (named_part bytes entry.answer) entry.answer line))
+    → (s : Monitor) (before entries : List Entry) → Holds s → AllAllowed setup bytes s before entries → Holds (state_after setup bytes s entries)
+holds_after setup bytes Holds one s before [] k allowed = k
+holds_after setup bytes Holds one s before (entry ∷ entries) k allowed =
+    holds_after setup bytes Holds one (after setup bytes s entry) (before ++ entry ∷ []) entries
+    (subst (λ (o : Option ActorLine). Holds (option_map_or (after_line s entry.actor (named_part bytes entry.answer) entry.answer) o s)) (sym allowed.0.1.1) (one s before entry allowed.0.1.0 k allowed.0.1.2))
+    allowed.1
+
 pub one_more_is_legal : OneMoreIsLegal
 one_more_is_legal setup bytes entries entry legal allowed = AllAllowed-append setup bytes (opening setup) [] entries (entry ∷ []) legal (allowed, tt)
 

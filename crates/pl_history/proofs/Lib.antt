@@ -1,9 +1,11 @@
 mod AccessCases
 mod AttackCases
 mod CaseStates
+mod Elements
 mod ForkCases
 mod HistoryCases
 pub mod HistoryLemmas
+pub mod HostMappings
 mod MakingCases
 pub mod OwnedPages
 pub mod ProgressLemmas

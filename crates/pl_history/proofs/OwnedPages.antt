@@ -1,12 +1,9 @@
 -- Whose the pages are that the host's mappings name, and that the enclave numbers took.
-use Rattle.std.proofs.Common.{◌≡◌, ℕ, ◌+◌, ◌≤◌, ◌==◌, ◌⊎◌, Bool, true, false, not, ◌||◌, if◌then◌else◌, cond, List, [], ◌∷◌, ◌++◌, append_assoc, is_some, length, filter, count_by, find, slice_index_or, Option, Some, None, option_map, refl, sym, ap, ◌∙◌, subst, inl, inr, arith}
+use Rattle.std.proofs.Common.{◌≡◌, ℕ, ◌+◌, ◌≤◌, ◌==◌, ◌⊎◌, Bool, true, false, not, if◌then◌else◌, List, [], ◌∷◌, ◌++◌, append_assoc, is_some, length, filter, count_by, Option, Some, None, option_map, refl, sym, ap, ◌∙◌, subst, inl, inr, arith}
 use Rattle.std.specs.Prelude.{nat_lt}
-use Rattle.std.specs.List.{All, list_any}
-use Rattle.std.specs.Option.{option_map_or}
-use Rattle.std.proofs.lemmas.Bool.{cases_Bool, eqb-true, eqb-false, false≢true, ltb-false}
-use Rattle.std.proofs.lemmas.Bool.Decides.{nat_tests}
-use Rattle.std.proofs.lemmas.List.Elements.{All-append, All-cons, All-contains, All-filter, All-nil, All-push, All-tail}
-use Rattle.std.proofs.lemmas.List.Sums.{sum_by-cons}
+use Rattle.std.specs.List.{All}
+use Rattle.std.proofs.lemmas.Bool.{eqb-true, eqb-false, false≢true, ltb-false}
+use Rattle.std.proofs.lemmas.List.Elements.{All-append, All-contains, All-filter, All-nil, All-push}
 use Rattle.pl_base.specs.Address.{vpn_of}
 use Rattle.pl_base.specs.Pages.{first_twice, is_among, most_spares}
 use Rattle.pl_base.specs.Refusals.{first_refusal, refuse}
@@ -28,88 +25,15 @@ use Rattle.pl_history.specs.Attacking.{Placed, written}
 use Rattle.pl_history.specs.History.{named_part}
 use Rattle.pl_history.specs.HostAccess.{mapping_used, store_to}
 use Rattle.pl_history.specs.HostMaps.{can_be_mapped, map_refusal, removing_of}
-use Rattle.pl_history.specs.Legal.{ActorLine, of_hart, of_attacker, AllAllowed, Allowed, AllowedAnswer, AllowedLine, after, after_line, attack_changes, changes, state_after}
+use Rattle.pl_history.specs.Legal.{ActorLine, of_hart, of_attacker, AllAllowed, AllowedAnswer, AllowedLine, after_line, attack_changes, changes, state_after}
 use Rattle.pl_history.specs.Making.{create_refusal, first_barred, first_mapped, first_not_host, fork_refusal, grant_refusal, image_page_count, page_refusals}
 use Rattle.pl_history.specs.Monitor.{Monitor, Number, Owner, Removal, freed, host, is_host, maps_of, number, opening, pages_taken, removed_at, with_number, with_owner}
 use Rattle.pl_history.specs.OwnedPages.{LegalPages, PagesApart, PagesStand}
+use Rattle.pl_history.proofs.HistoryLemmas.{holds_after}
+use Rattle.pl_history.proofs.Elements.{among, both, each_among, each_counted, found, none_passes, weaker}
 use Rattle.pl_history.proofs.Refusals.{first_none, named_none, refuse_none}
 
--- ---- lists
-
-weaker : {A : Type 0} (P Q : A → Type 0) (xs : List A) → ((x : A) → P x → Q x) → All P xs → All Q xs
-weaker P Q xs gives all = λ k d within. gives (slice_index_or xs k d) (all k d within)
-
-both : {A : Type 0} (P Q : A → Type 0) (xs : List A) → All P xs → All Q xs → All (λ x. P x × Q x) xs
-both P Q xs p q = λ k d within. (p k d within, q k d within)
-
-first_of : {A : Type 0} (P : A → Type 0) (x : A) (xs : List A) → All P (x ∷ xs) → P x
-first_of P x xs all = all 0 x (omega arith)
-
-either_true : (a b : Bool) → (a || b) ≡ true → (a ≡ true) ⊎ (b ≡ true)
-either_true true b is = inl refl
-either_true false b is = inr is
-
--- what holds of each page in a list holds of a page that is among them
-among : (P : ℕ → Type 0) (pages : List ℕ) (page : ℕ) → All P pages → is_among pages page ≡ true → P page
-among P [] page all is = absurd (false≢true is)
-among P (x ∷ xs) page all is = elim (either_true (x == page) (list_any (λ other. other == page) xs) is) [
-  | inl here ↦ subst P (eqb-true x page here) (first_of P x xs all)
-  | inr later ↦ among P xs page (All-tail P x xs all) later
-]
-
-or_true : (a b : Bool) → b ≡ true → (a || b) ≡ true
-or_true true b is = refl
-or_true false b is = is
-
-self_same : (x : ℕ) → (x == x) ≡ true
-self_same x = grind (arith, nat_tests)
-
-or_first : (a b : Bool) → a ≡ true → (a || b) ≡ true
-or_first true b is = refl
-or_first false b is = absurd (false≢true is)
-
--- each page of a list is among them
-each_among : (pages : List ℕ) → All (λ page. is_among pages page ≡ true) pages
-each_among [] = All-nil (λ page. is_among [] page ≡ true)
-each_among (x ∷ xs) =
-    All-cons (λ page. is_among (x ∷ xs) page ≡ true) x xs (or_first (x == x) (list_any (λ other. other == x) xs) (self_same x))
-    (weaker (λ page. is_among xs page ≡ true) (λ page. is_among (x ∷ xs) page ≡ true) xs (λ page is. or_true (x == page) (is_among xs page) is) (each_among xs))
-
--- a first element that passes is one of the list
-found : {A : Type 0} (P : A → Type 0) (test : A → Bool) (xs : List A) (x : A) → All P xs → find test xs ≡ Some x → P x
-found P test [] x all is = cc
-found P test (y ∷ ys) x all is = elim (cases_Bool (test y)) [
-  | inl passes ↦ (let here : Some y ≡ Some x = rw passes at is in let e : y ≡ x = cc in subst P e (first_of P y ys all))
-  | inr fails ↦ found P test ys x (All-tail P y ys all) (rw fails at is)
-]
-
--- where none passes, each fails
-none_passes : {A : Type 0} (test : A → Bool) (xs : List A) → find test xs ≡ None → All (λ x. test x ≡ false) xs
-none_passes test [] is = All-nil (λ x. test x ≡ false)
-none_passes test (y ∷ ys) is = elim (cases_Bool (test y)) [
-  | inl passes ↦ (let e : Some y ≡ None = rw passes at is in cc)
-  | inr fails ↦ All-cons (λ x. test x ≡ false) y ys fails (none_passes test ys (rw fails at is))
-]
-
--- each element is counted, by a number that it has
-one_more : (b : Bool) (n : ℕ) → b ≡ true → 1 ≤ cond b 1 0 + n
-one_more true n is = omega arith
-one_more false n is = absurd (false≢true is)
-
-no_less : (b : Bool) (n : ℕ) → 1 ≤ n → 1 ≤ cond b 1 0 + n
-no_less true n is = omega arith
-no_less false n is = omega arith
-
-each_counted : {A : Type 0} (page_of : A → ℕ) (xs : List A) → All (λ x. 1 ≤ count_by (λ y. page_of y == page_of x) xs) xs
-each_counted page_of [] = All-nil (λ x. 1 ≤ count_by (λ y. page_of y == page_of x) [])
-each_counted page_of (z ∷ zs) =
-    All-cons (λ x. 1 ≤ count_by (λ y. page_of y == page_of x) (z ∷ zs)) z zs
-    (subst (λ n. 1 ≤ n) (sym (sum_by-cons (λ y. cond (page_of y == page_of z) 1 0) z zs)) (one_more (page_of z == page_of z) (count_by (λ y. page_of y == page_of z) zs) (self_same (page_of z))))
-    (weaker (λ x. 1 ≤ count_by (λ y. page_of y == page_of x) zs) (λ x. 1 ≤ count_by (λ y. page_of y == page_of x) (z ∷ zs)) zs
-    (λ x is. subst (λ n. 1 ≤ n) (sym (sum_by-cons (λ y. cond (page_of y == page_of x) 1 0) z zs)) (no_less (page_of z == page_of x) (count_by (λ y. page_of y == page_of x) zs) is))
-    (each_counted page_of zs))
-
--- ---- refusals
+-- ---- pages that may be taken
 
 not_true : (b : Bool) → not b ≡ false → b ≡ true
 not_true true is = refl
@@ -382,22 +306,12 @@ after_stands setup bytes s before entry (of_attacker line) k allowed =
 
 -- ---- whole histories
 
-entry_stands : (setup : SetupParts) (bytes : List ℕ) (s : Monitor) (before : List Entry) (entry : Entry) → PagesStand s → Allowed setup bytes s before entry → PagesStand (after setup bytes s entry)
-entry_stands setup bytes s before entry k allowed =
-    subst (λ (o : Option ActorLine). PagesStand (option_map_or (after_line s entry.actor (named_part bytes entry.answer) entry.answer) o s)) (sym allowed.1.1)
-    (after_stands setup bytes s before entry allowed.1.0 k allowed.1.2)
-
-all_stand : (setup : SetupParts) (bytes : List ℕ) (s : Monitor) (before entries : List Entry) → PagesStand s → AllAllowed setup bytes s before entries → PagesStand (state_after setup bytes s entries)
-all_stand setup bytes s before [] k allowed = k
-all_stand setup bytes s before (entry ∷ entries) k allowed =
-    all_stand setup bytes (after setup bytes s entry) (before ++ entry ∷ []) entries (entry_stands setup bytes s before entry k allowed.0) allowed.1
-
 opening_stands : (setup : SetupParts) → PagesStand (opening setup)
 unfolding opening
 opening_stands setup = record { mapped = All-nil _; removed = All-nil _; taken = λ e. All-nil _ }
 
 legal_stand : (setup : SetupParts) (bytes : List ℕ) (entries : List Entry) → AllAllowed setup bytes (opening setup) [] entries → PagesStand (state_after setup bytes (opening setup) entries)
-legal_stand setup bytes entries legal = all_stand setup bytes (opening setup) [] entries (opening_stands setup) legal
+legal_stand setup bytes entries legal = holds_after setup bytes PagesStand (after_stands setup bytes) (opening setup) [] entries (opening_stands setup) legal
 
 -- a page has one owner
 one_number : (o : Option Owner) (e f : ℕ) → o ≡ Some (number e) → o ≡ Some (number f) → e ≡ f

@@ -7,6 +7,7 @@ pub mod History
 pub mod Answering
 pub mod Licence
 pub mod HostAccess
+pub mod HostMappings
 pub mod HostMaps
 pub mod Making
 pub mod Running

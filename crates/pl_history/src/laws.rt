@@ -1,4 +1,5 @@
 // Laws of histories.
+ghost use Rattle.pl_history.specs.HostMappings.{LegalMappings};
 ghost use Rattle.pl_history.specs.OwnedPages.{LegalPages};
 ghost use Rattle.pl_history.specs.Laws.{OneMoreIsLegal, OneMoreGives, MoreBytesLeaveLegal, MoreBytesLeaveState, AnswersMoveOneActor, LinesBeginOnce, UnattackedIsFaultless};
 
@@ -34,4 +35,11 @@ pub fn faults_need_an_attack()
 #[tactic(auto, using(crate::proofs::OwnedPages::legal_pages))]
 pub fn pages_have_one_owner()
     ensures { LegalPages }
+{}
+
+/// In a legal history the host's mappings, and those that it is removing, stand at addresses of their own, which its tables have words for:
+/// a page is mapped at most as often as there are such words.
+#[tactic(auto, using(crate::proofs::HostMappings::legal_mappings))]
+pub fn mappings_have_their_words()
+    ensures { LegalMappings }
 {}
