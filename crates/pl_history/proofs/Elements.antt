@@ -1,8 +1,7 @@
 -- What is known of each element of a list, and how often one stands in it.
-use Rattle.std.proofs.Common.{◌≡◌, ℕ, ◌+◌, ◌<◌, ◌≤◌, ◌==◌, ◌⊎◌, zero, suc, Bool, true, false, not, ◌||◌, cond, List, [], ◌∷◌, length, filter, count_by, find, slice_index_or, Some, None, refl, sym, ◌∙◌, subst, inl, inr, arith}
+use Rattle.std.proofs.Common.{◌≡◌, ℕ, ◌+◌, ◌<◌, ◌≤◌, ◌==◌, ◌⊎◌, zero, suc, Bool, true, false, not, ◌||◌, cond, List, [], ◌∷◌, length, filter, count_by, find, slice_index_or, Some, None, refl, sym, ◌∙◌, subst, inl, inr, arith, eq-eqb}
 use Rattle.std.specs.List.{All, list_any}
 use Rattle.std.proofs.lemmas.Bool.{cases_Bool, eqb-true, eqb-false, false≢true}
-use Rattle.std.proofs.lemmas.Bool.Decides.{nat_tests}
 use Rattle.std.proofs.lemmas.List.Elements.{All-cons, All-filter, All-nil, All-tail, filter_passes}
 use Rattle.std.proofs.lemmas.List.Filters.{length-filter_both, sum_by-filter_both}
 use Rattle.std.proofs.lemmas.List.Sums.{length-filter, sum_by-cons}
@@ -33,9 +32,6 @@ or_true : (a b : Bool) → b ≡ true → (a || b) ≡ true
 or_true true b is = refl
 or_true false b is = is
 
-pub self_same : (x : ℕ) → (x == x) ≡ true
-self_same x = grind (arith, nat_tests)
-
 or_first : (a b : Bool) → a ≡ true → (a || b) ≡ true
 or_first true b is = refl
 or_first false b is = absurd (false≢true is)
@@ -44,7 +40,7 @@ or_first false b is = absurd (false≢true is)
 pub each_among : (pages : List ℕ) → All (λ page. is_among pages page ≡ true) pages
 each_among [] = All-nil (λ page. is_among [] page ≡ true)
 each_among (x ∷ xs) =
-    All-cons (λ page. is_among (x ∷ xs) page ≡ true) x xs (or_first (x == x) (list_any (λ other. other == x) xs) (self_same x))
+    All-cons (λ page. is_among (x ∷ xs) page ≡ true) x xs (or_first (x == x) (list_any (λ other. other == x) xs) (eq-eqb x x refl))
     (weaker (λ page. is_among xs page ≡ true) (λ page. is_among (x ∷ xs) page ≡ true) xs (λ page is. or_true (x == page) (is_among xs page) is) (each_among xs))
 
 -- a first element that passes is one of the list
@@ -76,7 +72,7 @@ pub each_counted : {A : Type 0} (page_of : A → ℕ) (xs : List A) → All (λ 
 each_counted page_of [] = All-nil (λ x. 1 ≤ count_by (λ y. page_of y == page_of x) [])
 each_counted page_of (z ∷ zs) =
     All-cons (λ x. 1 ≤ count_by (λ y. page_of y == page_of x) (z ∷ zs)) z zs
-    (subst (λ n. 1 ≤ n) (sym (sum_by-cons (λ y. cond (page_of y == page_of z) 1 0) z zs)) (one_more (page_of z == page_of z) (count_by (λ y. page_of y == page_of z) zs) (self_same (page_of z))))
+    (subst (λ n. 1 ≤ n) (sym (sum_by-cons (λ y. cond (page_of y == page_of z) 1 0) z zs)) (one_more (page_of z == page_of z) (count_by (λ y. page_of y == page_of z) zs) (eq-eqb (page_of z) (page_of z) refl)))
     (weaker (λ x. 1 ≤ count_by (λ y. page_of y == page_of x) zs) (λ x. 1 ≤ count_by (λ y. page_of y == page_of x) (z ∷ zs)) zs
     (λ x is. subst (λ n. 1 ≤ n) (sym (sum_by-cons (λ y. cond (page_of y == page_of x) 1 0) z zs)) (no_less (page_of z == page_of x) (count_by (λ y. page_of y == page_of x) zs) is))
     (each_counted page_of zs))

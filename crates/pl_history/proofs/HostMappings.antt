@@ -1,8 +1,8 @@
 -- The host's mappings and those that it is removing stand at addresses of their own, which its tables have words for.
-use Rattle.std.proofs.Common.{◌≡◌, ℕ, ◌+◌, ◌*◌, ◌%◌, ◌<◌, ◌≤◌, ◌==◌, ◌&&◌, Bool, true, false, not, is_some, cond, List, [], ◌∷◌, ◌++◌, length, length-append, map, filter, count_by, find, Option, Some, None, option_map, refl, sym, ap, ◌∙◌, subst, arith}
+use Rattle.std.proofs.Common.{◌≡◌, ℕ, ◌+◌, ◌*◌, ◌%◌, ◌<◌, ◌≤◌, ◌==◌, Bool, true, false, not, is_some, cond, List, [], ◌∷◌, ◌++◌, length, length-append, map, filter, count_by, find, Option, Some, None, option_map, refl, sym, ap, ◌∙◌, subst, arith}
 use Rattle.std.specs.Prelude.{nat_lt}
 use Rattle.std.specs.List.{All}
-use Rattle.std.proofs.lemmas.Bool.{eqb-true, false≢true, ltb-true}
+use Rattle.std.proofs.lemmas.Bool.{and_parts, eqb-true, false≢true, ltb-true}
 use Rattle.std.proofs.lemmas.Bool.Decides.{nat_tests}
 use Rattle.std.proofs.lemmas.List.{length-map}
 use Rattle.std.proofs.lemmas.List.Elements.{All-append, All-filter, All-map, All-nil, All-push, filter_passes}
@@ -42,14 +42,10 @@ unmapped : (o : Option Removal) → option_map (λ (r : Removal). r.mapping) o �
 unmapped None is = refl
 unmapped (Some r) is = cc
 
-both_true : (a b : Bool) → (a && b) ≡ true → (a ≡ true) × (b ≡ true)
-both_true true b is = (refl, is)
-both_true false b is = absurd (false≢true is)
-
 -- an address that can be mapped has its word
 vpn_inside : (setup : SetupParts) (va : Va) → can_be_mapped setup va ≡ true → (vpn_of va).0 < 512 * setup.tables
 vpn_inside setup va can =
-    let below : va.0 < 4096 * 512 * setup.tables = ltb-true va.0 (4096 * 512 * setup.tables) (both_true (va.0 % 4096 == 0) (nat_lt va.0 (4096 * 512 * setup.tables)) can).1 in
+    let below : va.0 < 4096 * 512 * setup.tables = ltb-true va.0 (4096 * 512 * setup.tables) (and_parts (va.0 % 4096 == 0) (nat_lt va.0 (4096 * 512 * setup.tables)) can).1 in
     omega arith
 
 counts_one : (b : Bool) → b ≡ true → cond {A = ℕ} b 1 0 ≡ 1

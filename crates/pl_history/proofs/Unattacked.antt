@@ -3,7 +3,7 @@ use Rattle.std.proofs.Common.{◌≡◌, ℕ, ◌+◌, ◌%◌, ◌==◌, Bool, 
 use Rattle.std.specs.Prelude.{IsTrue, nat_lt}
 use Rattle.std.specs.List.{list_any}
 use Rattle.std.specs.Option.{option_map_or}
-use Rattle.std.proofs.lemmas.Bool.{false≢true}
+use Rattle.std.proofs.lemmas.Bool.{false≢true, or_parts}
 use Rattle.pl_base.specs.Address.{vpn_of}
 use Rattle.pl_base.specs.Refusals.{first_refusal, refuse}
 use Rattle.pl_base.specs.States.{is_absent, is_fresh, is_paused, is_free, is_sealed, is_under_way, is_wordless, run_refusal, destroy_refusal}
@@ -309,10 +309,6 @@ entry_faultless setup bytes s before entry none (of_attacker line) allowed =
 
 -- ---- whole histories
 
-either_false : (a b : Bool) → (a || b) ≡ false → (a ≡ false) × (b ≡ false)
-either_false true b is = cc
-either_false false b is = (refl, is)
-
 both_false : (a b : Bool) → a ≡ false → b ≡ false → (a || b) ≡ false
 both_false true b p q = p
 both_false false b p q = q
@@ -323,7 +319,7 @@ module _ (setup : SetupParts) (bytes : List ℕ) where
       → IsFaultless entries × ((state_after setup bytes s entries).attacks ≡ [])
   all_faultless s before [] none allowed still = (refl, none)
   all_faultless s before (entry ∷ entries) none allowed still =
-      let parts = either_false (says_changed entry.answer) (list_any (λ (e : Entry). says_changed e.answer) entries) still in
+      let parts = or_parts (says_changed entry.answer) (list_any (λ (e : Entry). says_changed e.answer) entries) still in
       let first = entry_faultless setup bytes s before entry none allowed.0.1.0 allowed.0.1.2 in
       let none_after : (after setup bytes s entry).attacks ≡ [] = entry_leaves setup bytes s entry (line_at setup entry.actor entry.line) parts.0 ∙ none in
       let rest = all_faultless (after setup bytes s entry) (before ++ entry ∷ []) entries none_after allowed.1 parts.1 in
