@@ -26,11 +26,11 @@ fn pages_named(setup: &SetupParts, hart: HartNo, at: u32) -> &[u32]
     requires { hart.0 < length setup.now.lines }
     ensures { result.now ≡ pages_named (slice_get (script_of setup.now hart.0) at) }
 {
-    pages_named(setup.lines.as_slice()[usize::from(hart.0)].get(at as usize))
+    pages_in(setup.lines.as_slice()[usize::from(hart.0)].get(at as usize))
 }
 
 /// The pages of a line that makes a number.
-fn pages_named(line: Option<&Line>) -> &[u32]
+fn pages_in(line: Option<&Line>) -> &[u32]
     ensures { result.now ≡ pages_named (option_copied line.entry) }
 {
     match line {
