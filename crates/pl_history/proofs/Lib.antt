@@ -4,6 +4,7 @@ mod CaseStates
 mod Elements
 mod ForkCases
 mod HistoryCases
+pub mod GuardedPages
 pub mod HistoryLemmas
 pub mod HostMappings
 mod MakingCases

@@ -1,9 +1,12 @@
 -- The sixteen protection entries of every hart (own; the form of an entry is that of the RISC-V Privileged Architecture, PMP).
-use Rattle.std.specs.Prelude.{ℕ, ◌/◌, ◌==◌, List, [], ◌∷◌, ◌++◌, map, find}
+use Rattle.std.specs.Prelude.{◌≡◌, ℕ, ◌+◌, ◌/◌, ◌<◌, ◌≤◌, ◌==◌, List, [], ◌∷◌, ◌++◌, map, find}
 use Rattle.std.specs.List.{range_with_len}
 use Rattle.std.specs.Option.{option_map_or}
+use Rattle.pl_base.specs.Perms.{grants}
+use Rattle.pl_base.specs.declared.access.Kind.{Kind}
 use Rattle.mem_geom.specs.Layout.{page_start}
 use Rattle.rv_pmp.specs.declared.rule.Rule.{Rule}
+use Rattle.rv_pmp.specs.Pmp.{permits}
 use Rattle.pl_history.specs.declared.setup.SetupParts.{SetupParts}
 use Rattle.pl_history.specs.Rules.{guarded_of, pages_of}
 
@@ -32,3 +35,8 @@ pmp_of setup =
     rule_at off (page_start 0) ∷ rule_at up_to_readable (page_start (guarded_of setup.tables setup.enclaves))
     ∷ (map (entry_of_setup setup.pmp) (range_with_len 2 11)
     ++ (rule_at off (page_start 0) ∷ rule_at up_to_open (page_start (pages_of setup.zones)) ∷ rule_at off 0 ∷ []))
+
+-- the guarded pages may be read and nothing else: so each word of a table can be read, whatever the setup's entries are
+abbrev pub GuardedAreRead : Type 0
+GuardedAreRead = (setup : SetupParts) (page offset width : ℕ) (kind : Kind) → page < guarded_of setup.tables setup.enclaves → 0 < width → offset + width ≤ 4096
+    → permits (pmp_of setup) (page_start page + offset) width kind ≡ grants (record { 0 = 1 }) kind

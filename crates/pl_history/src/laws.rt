@@ -1,6 +1,7 @@
 // Laws of histories.
 ghost use Rattle.pl_history.specs.HostMappings.{LegalMappings};
 ghost use Rattle.pl_history.specs.OwnedPages.{LegalPages};
+ghost use Rattle.pl_history.specs.Protection.{GuardedAreRead};
 ghost use Rattle.pl_history.specs.Laws.{OneMoreIsLegal, OneMoreGives, MoreBytesLeaveLegal, MoreBytesLeaveState, AnswersMoveOneActor, LinesBeginOnce, UnattackedIsFaultless};
 
 /// A history grows by one entry at a time: it stays legal where that entry is allowed, and the state that it gives is the one after it.
@@ -31,7 +32,8 @@ pub fn faults_need_an_attack()
 {}
 
 /// In a legal history each page that the host maps, or whose mapping it is removing, is the host's, and each page that a number took is
-/// this number's: no page belongs to two numbers, and no access of the host reaches a number's page.
+/// this number's and open to every access by the protection entries: no page belongs to two numbers, and no access of the host reaches a
+/// number's page.
 #[tactic(auto, using(crate::proofs::OwnedPages::legal_pages))]
 pub fn pages_have_one_owner()
     ensures { LegalPages }
@@ -42,4 +44,10 @@ pub fn pages_have_one_owner()
 #[tactic(auto, using(crate::proofs::HostMappings::legal_mappings))]
 pub fn mappings_have_their_words()
     ensures { LegalMappings }
+{}
+
+/// The protection entries let the guarded pages be read, and refuse every other access to them, whatever the setup's own entries are.
+#[tactic(auto, using(crate::proofs::GuardedPages::guarded_are_read))]
+pub fn guarded_pages_are_read()
+    ensures { GuardedAreRead }
 {}
