@@ -122,6 +122,10 @@ module _ (digest_of : List ℕ → List ℕ) where
         → tables ≤ 32 → 2 + tables ≤ 64 * g.ctl.zones → page < 2 ^ 32 → IsTrue (are_page_perms perms) → early_refusal tables fences va ≡ None → HostTables tables (mirror_words g.ctl) space
         → let r = (map_of digest_of tables fences owners va page perms g).step in
         HappensIn tables (map_refusal_in space owners va page) (space ++ new_mapping va page perms ∷ []) space r.outcome r.after.ctl
+    -- leaves stay those of pages, where a host page is one
+    pub keeps : (tables : ℕ) (fences : List (Option Fence)) (owners : List Owner) (va : Va) (page : ℕ) (perms : Perms) (g : Going) → IsKept digest_of g.ctl → 2 + tables ≤ 64 * g.ctl.zones
+        → page < 2 ^ 32 → (is_host (owner_at owners page) ≡ true → page < 64 * g.ctl.zones) → IsTrue (are_page_perms perms) → HaveHostLeaves tables g.ctl
+        → HaveHostLeaves tables (map_of digest_of tables fences owners va page perms g).step.after.ctl
 
   pub record UnmapsTell : Type 0 where
     pub at_once : (tables : ℕ) (fences : List (Option Fence)) (h : ℕ) (va : Va) (g : Going) (cause : No) → early_refusal tables fences va ≡ Some cause
@@ -138,3 +142,5 @@ module _ (digest_of : List ℕ → List ℕ) where
     pub page : (tables : ℕ) (fences : List (Option Fence)) (h : ℕ) (va : Va) (g : Going) (space : List Mapping) (page : ℕ) → IsKept digest_of g.ctl → 2 + tables ≤ 64 * g.ctl.zones
         → All IsMappable space → HostTables tables (mirror_words g.ctl) space → (unmap_begun digest_of tables fences h va g).step.outcome ≡ Value (Ok page)
         → (m : Mapping) × (mapping_at space (vpn_of va).0 ≡ Some m) × (m.page ≡ page)
+    pub keeps : (tables : ℕ) (fences : List (Option Fence)) (h : ℕ) (va : Va) (g : Going) → IsKept digest_of g.ctl → 2 + tables ≤ 64 * g.ctl.zones → HaveHostLeaves tables g.ctl
+        → HaveHostLeaves tables (unmap_begun digest_of tables fences h va g).step.after.ctl

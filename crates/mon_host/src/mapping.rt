@@ -3,6 +3,7 @@ ghost use Rattle.std.specs.Prelude.{◌≡◌, ◌+◌, ◌*◌, ◌≤◌, IsTr
 ghost use Rattle.std.specs.Fn.{FnReturnsAt};
 ghost use Rattle.pl_base.specs.Perms.{are_page_perms};
 ghost use Rattle.mem_slots.specs.Choices.{NamesPosition};
+ghost use Rattle.mem_ctl.specs.Access.{Leaves};
 ghost use Rattle.mem_ctl.specs.Stops.{step_answer};
 ghost use Rattle.mon_owner.specs.Owners.{is_host, may_be_mapped, owner_at};
 ghost use Rattle.mon_host.specs.Leaves.{IsHostEvent};
@@ -38,8 +39,10 @@ pub fn map<D: Digester, F: Fn(&[SlotUse]) -> usize>(
     requires few { IsTrue (is_host (owner_at owners.old page)) → IsTrue (may_be_mapped (owner_at owners.old page)) }
     requires choice { NamesPosition F.Fn ctl.old.1 }
     ensures event { IsHostEvent (FnReturnsAt F.Fn ctl.old.1) (map_of D.digest_of tables fences.now owners.old va page perms) ctl.old.0 (step_answer result) ctl.new.0 owners.new }
+    ensures leaves { Leaves D.digest_of ctl.old.0 ctl.new.0 }
     ensures choice { ctl.new.1 ≡ ctl.old.1 }
 {
+    ctl.trees_hold();
     let (at, offset) = match leaf_slot(fences, tables, va) {
         Ok(slot) => slot,
         Err(cause) => return Err(Stop::No(cause)),

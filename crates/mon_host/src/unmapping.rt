@@ -4,6 +4,7 @@ ghost use Rattle.std.specs.Fn.{FnReturnsAt};
 ghost use Rattle.std.specs.Option.{IsSomeAnd};
 ghost use Rattle.rv_sv39.specs.Word.{ppn_of};
 ghost use Rattle.mem_slots.specs.Choices.{NamesPosition};
+ghost use Rattle.mem_ctl.specs.Access.{Leaves};
 ghost use Rattle.mem_ctl.specs.Stops.{step_answer};
 ghost use Rattle.mon_fence.specs.Fences.{fence_of};
 ghost use Rattle.mon_owner.specs.Owners.{is_mapped, owner_at};
@@ -49,8 +50,10 @@ pub fn unmap_begin<D: Digester, F: Fn(&[SlotUse]) -> usize>(
     requires none { fence_of fences.old h.0 ≡ None }
     requires choice { NamesPosition F.Fn ctl.old.1 }
     ensures event { IsHostEvent (FnReturnsAt F.Fn ctl.old.1) (unmap_begun D.digest_of tables fences.old h.0 va) ctl.old.0 (step_answer result) ctl.new.0 fences.new }
+    ensures leaves { Leaves D.digest_of ctl.old.0 ctl.new.0 }
     ensures choice { ctl.new.1 ≡ ctl.old.1 }
 {
+    ctl.trees_hold();
     let (at, offset) = match leaf_slot(fences, tables, va) {
         Ok(slot) => slot,
         Err(cause) => return Err(Stop::No(cause)),
