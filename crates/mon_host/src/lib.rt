@@ -11,3 +11,6 @@ mod unmapping;
 pub use laws::{maps_tell, spaces_have_leaves, unmaps_tell};
 pub use mapping::map;
 pub use unmapping::{unmap_begin, unmap_end};
+
+#[cfg(test)]
+mod tests;
