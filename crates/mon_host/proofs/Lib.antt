@@ -3,4 +3,5 @@ pub mod LawLemmas
 pub mod LeafLemmas
 pub mod RefusalLemmas
 pub mod SpaceLemmas
+pub mod StartLemmas
 pub mod WordLemmas

@@ -61,6 +61,10 @@ has_slot tables vpn slot is = elim (cases_Bool (nat_lt vpn (512 * tables))) [
 
 -- ---- words of pages
 
+-- a word is read back from its bytes
+pub read_back : (word : ℕ) → word < 2 ^ 64 → little_number 8 (little_bytes 8 word) ≡ word
+read_back word fits = ap (little_number 8) (sym (append-nil (little_bytes 8 word))) ∙ little_number-reads_back 8 word [] fits
+
 module _ (x y : CtlData) where
   -- the word of a page, from the page's bytes
   word_of_page : (memory : List ℕ) (page at : ℕ) → at + 8 ≤ 4096 → word_at memory page at ≡ little_number 8 (bytes_at (page_bytes memory page) at 8)
@@ -109,10 +113,7 @@ module _ (x y : CtlData) where
     word_now : word_at y.mirror slot.0 slot.1 ≡ word
     word_now =
         let read : bytes_at written slot.1 8 ≡ little_bytes 8 word = subst (λ n. bytes_at written slot.1 n ≡ little_bytes 8 word) long (bytes_at-with_bytes bytes slot.1 (little_bytes 8 word) fits_in) in
-        word_of_page y.mirror slot.0 slot.1 (omega arith) ∙ ap (λ (b : List ℕ). little_number 8 (bytes_at b slot.1 8)) own_page ∙ ap (little_number 8) read ∙ read_back
-      where
-        read_back : little_number 8 (little_bytes 8 word) ≡ word
-        read_back = ap (little_number 8) (sym (append-nil (little_bytes 8 word))) ∙ little_number-reads_back 8 word [] fits
+        word_of_page y.mirror slot.0 slot.1 (omega arith) ∙ ap (λ (b : List ℕ). little_number 8 (bytes_at b slot.1 8)) own_page ∙ ap (little_number 8) read ∙ read_back word fits
 
     -- another word
     other_word : (page at : ℕ) → page < 64 * x.zones → at < 4096 → at % 8 ≡ 0 → (page ≢ slot.0) ⊎ (at ≢ slot.1) → word_at y.mirror page at ≡ word_at x.mirror page at

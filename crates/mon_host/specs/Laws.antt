@@ -15,6 +15,7 @@ use Rattle.pl_base.specs.declared.refusal.No.TheVariants as no
 use Rattle.mem_geom.specs.PathPlaces.{word_places}
 use Rattle.mem_ctl.specs.Access.{Accessed, BothChange, BothStay}
 use Rattle.mem_ctl.specs.Data.{CtlData, Going, Outcome, Value, Fault, Collision, Again, answer}
+use Rattle.mem_ctl.specs.Start.{HasWords}
 use Rattle.mem_ctl.specs.TreesHold.{IsKept}
 use Rattle.mem_ctl.specs.Writes.{word_at}
 use Rattle.mon_fence.specs.declared.fences.Fence.{Fence}
@@ -23,7 +24,7 @@ use Rattle.mon_owner.specs.declared.owners.Owner.{Owner}
 use Rattle.mon_owner.specs.Owners.{is_host, owner_at}
 use Rattle.mon_tables.specs.Space.{Mapping, mapping_at, without_vpn}
 use Rattle.mon_tables.specs.SpaceWalks.{HostTables, IsMappable, WalksTo}
-use Rattle.mon_tables.specs.Tables.{root_of}
+use Rattle.mon_tables.specs.Tables.{root_of, start_words}
 use Rattle.mon_tables.specs.Words.{leaf_word}
 use Rattle.mon_host.specs.Leaves.{HostEvent, can_be_mapped, early_refusal, host_space, if_done, leaf_slot}
 use Rattle.mon_host.specs.Mapping.{map_of, map_refusal}
@@ -101,6 +102,11 @@ LeadInside pages space = All (λ (m : Mapping). (m.page < pages) × IsTrue (are_
 abbrev pub SpacesHaveLeaves : Type 0
 SpacesHaveLeaves = (tables : ℕ) (x : CtlData) (space : List Mapping) → 2 + tables ≤ 64 * x.zones → LeadInside (64 * x.zones) space
     → HostTables tables (mirror_words x) space → HaveHostLeaves tables x
+
+-- memory that has the start words of the host's tables stands for the empty space
+abbrev pub StartsInEmptySpace : Type 0
+StartsInEmptySpace = (tables : ℕ) (x : CtlData) → tables ≤ 32 → 2 + tables ≤ 64 * x.zones → HasWords (64 * x.zones) (start_words tables) x.mirror
+    → HostTables tables (mirror_words x) []
 
 -- ---- what holds of the events
 
