@@ -9,7 +9,7 @@ ghost use Rattle.mon_owner.specs.Owners.{is_host, may_be_mapped, owner_at};
 ghost use Rattle.mon_host.specs.Leaves.{IsHostEvent};
 ghost use Rattle.mon_host.specs.Mapping.{map_of, map_refusal};
 
-use crate::leaves::leaf_slot;
+use crate::leaves::{WORD_BYTES, leaf_slot};
 use mem_ctl::{Ctl, Stop};
 use mem_slots::SlotUse;
 use mon_fence::Fences;
@@ -17,9 +17,6 @@ use mon_owner::{Owner, Owners};
 use mon_tables::leaf_word;
 use pl_base::{Mode, No, Perms, Va};
 use pl_digest::Digester;
-
-/// The bytes of a word.
-const WORD_BYTES: u8 = 8;
 
 /// Maps a page of the host at an address, and counts the mapping.
 ///

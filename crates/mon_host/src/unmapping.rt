@@ -12,7 +12,7 @@ ghost use Rattle.mon_tables.specs.Words.{ppn_of_page};
 ghost use Rattle.mon_host.specs.Leaves.{IsHostEvent};
 ghost use Rattle.mon_host.specs.Unmapping.{HaveHostLeaves, page_of_leaf, unmap_begun, unmap_ended};
 
-use crate::leaves::leaf_slot;
+use crate::leaves::{WORD_BYTES, leaf_slot};
 use mem_ctl::{Ctl, Stop};
 use mem_geom::MEMORY_START;
 use mem_slots::SlotUse;
@@ -20,9 +20,6 @@ use mon_fence::Fences;
 use mon_owner::Owners;
 use pl_base::{HartNo, No, PAGE_BYTES, Space, Va};
 use pl_digest::Digester;
-
-/// The bytes of a word.
-const WORD_BYTES: u8 = 8;
 
 /// The physical page number of page 0 of off-chip memory.
 const FIRST_PPN: u64 = MEMORY_START / PAGE_BYTES;
