@@ -1,5 +1,5 @@
 -- The laws of `map` and of `unmap`.
-use Rattle.std.proofs.Common.{ℕ, ◌≡◌, ◌≤◌, ◌+◌, ◌*◌, Bool, true, false, List, [], ◌∷◌, Option, Some, None, refl, ap, subst, sym, arith}
+use Rattle.std.proofs.Common.{ℕ, ◌≡◌, ◌≤◌, ◌+◌, ◌*◌, Bool, true, false, List, [], ◌∷◌, Option, Some, None, refl, ap, subst, sym, arith, inl, lit<}
 use Rattle.std.specs.Prelude.{Result, Ok}
 use Rattle.pl_base.specs.Refusals.{refuse, first_refusal}
 use Rattle.pl_base.specs.declared.access.Mode.TheVariants.{Super}
@@ -16,9 +16,9 @@ use Rattle.mon_tables.specs.Words.{leaf_word}
 use Rattle.mon_host.specs.Laws.{MapsTell, UnmapsTell, WordTells, places_of}
 use Rattle.mon_host.specs.Leaves.{early_refusal, leaf_slot, step_unless, word_replaced}
 use Rattle.mon_host.specs.Mapping.{map_of, map_refusal}
-use Rattle.mon_host.specs.Unmapping.{page_of_leaf, unmap_begun, unmap_refusal}
+use Rattle.mon_host.specs.Unmapping.{HaveHostLeaves, page_of_leaf, unmap_begun, unmap_refusal}
 use Rattle.mon_host.proofs.RefusalLemmas.{can_be_mapped-early, event_busy, event_refused_at_once}
-use Rattle.mon_host.proofs.SpaceLemmas.{IsSlot, map_happens, mapped-IsSlot, unmap_happens, unmapped_page}
+use Rattle.mon_host.proofs.SpaceLemmas.{IsSlot, keeps_leaves, leaf_fits, map_happens, mapped-IsSlot, new_leaf, unmap_happens, unmapped_page}
 use Rattle.mon_host.proofs.WordLemmas.{replaced_tells}
 
 -- ---- no later cause is that of a removal under way
@@ -50,6 +50,12 @@ module _ (tables : ℕ) (fences : List (Option Fence)) (va : Va) (none : early_r
         subst (λ e. Told (step_unless e (word_replaced d slot refusal word value) g)) (sym none)
         (replaced_tells d law slot refusal word value g kept (omega (arith, page, at.vpn_below)) (omega (arith, offset)) (omega (arith, offset)))
 
+-- an event that is refused at once leaves the controller
+kept_by : {A : Type 0} (P : CtlData → Type 0) (early : Option No) (step : Going → After (Result A No)) (g : Going) → P g.ctl → (early ≡ None → P (step_unless early step g).after.ctl)
+    → P (step_unless early step g).after.ctl
+kept_by P (Some cause) step g was goes = was
+kept_by P None step g was goes = goes refl
+
 -- what was done wasn't refused at once
 not_early : {A : Type 0} (early : Option No) (step : Going → After (Result A No)) (g : Going) (a : A) → (step_unless early step g).outcome ≡ Value (Ok a) → early ≡ None
 not_early (Some cause) step g a is = cc
@@ -67,6 +73,12 @@ maps_tell walk sets d law = record {
   space = λ tables fences owners va page perms g space kept few guarded small allowed none stand.
       map_happens walk d tables few g.ctl _ kept.trees.sizes.mirror_size guarded space va (at tables fences va none) stand sets owners page perms small allowed _
       (leaf_told tables fences va none d law (map_refusal owners page) (leaf_word page perms Super) (λ word. tt) g kept guarded).tells;
+  keeps = λ tables fences owners va page perms g kept guarded small inside allowed leaves.
+      kept_by (HaveHostLeaves tables) (early_refusal tables fences va) (word_replaced d (leaf_slot tables va) (map_refusal owners page) (leaf_word page perms Super) (λ word. tt)) g leaves
+      (λ none.
+      let told = leaf_told tables fences va none d law (map_refusal owners page) (leaf_word page perms Super) (λ word. tt) g kept guarded in
+      keeps_leaves d tables g.ctl _ kept.trees.sizes.mirror_size guarded told.leaves.same_zones va (at tables fences va none) (map_refusal owners page) (leaf_word page perms Super) (λ word. tt)
+      (leaf_fits page perms small allowed) (new_leaf owners page _ (64 * g.ctl.zones) perms allowed inside) leaves _ told.tells);
 }
 
 pub unmaps_tell : HostTablesWalk → ClearsMapping → (d : List ℕ → List ℕ) → HasDigests d → UnmapsTell d
@@ -84,4 +96,9 @@ unmaps_tell walk clears d law = record {
       let after : CtlData = (step_unless (early_refusal tables fences va) (word_replaced d (leaf_slot tables va) unmap_refusal 0 page_of_leaf) g).after.ctl in
       let tells = subst (λ (o : Outcome (Result ℕ No)). AccessTells d (places_of (leaf_slot tables va)) (WordTells (leaf_slot tables va) unmap_refusal 0 page_of_leaf g.ctl after) g.ctl o after) is told.tells in
       unmapped_page tables g.ctl space va page (at tables fences va none) all stand tells.0 tells.1;
+  keeps = λ tables fences h va g kept guarded leaves.
+      kept_by (HaveHostLeaves tables) (early_refusal tables fences va) (word_replaced d (leaf_slot tables va) unmap_refusal 0 page_of_leaf) g leaves
+      (λ none.
+      let told = leaf_told tables fences va none d law unmap_refusal 0 page_of_leaf g kept guarded in
+      keeps_leaves d tables g.ctl _ kept.trees.sizes.mirror_size guarded told.leaves.same_zones va (at tables fences va none) unmap_refusal 0 page_of_leaf (lit< tt) (λ cleared. inl refl) leaves _ told.tells);
 }

@@ -1,5 +1,5 @@
 -- What the events come to in the host's space.
-use Rattle.std.proofs.Common.{ℕ, ◌≡◌, ◌≢◌, ◌+◌, ◌-◌, ◌*◌, ◌/◌, ◌%◌, ◌^◌, ◌<◌, ◌≤◌, ◌==◌, ◌⊎◌, nat_lt, true, false, cond, not, IsTrue, List, [], ◌∷◌, ◌++◌, length, drop, All, Option, Some, None, is_some, unwrap_or, refl, ap, subst, sym, ◌∙◌, arith, inl, inr, length-drop, lit<}
+use Rattle.std.proofs.Common.{ℕ, ◌≡◌, ◌≢◌, ◌+◌, ◌-◌, ◌*◌, ◌/◌, ◌%◌, ◌^◌, ◌<◌, ◌≤◌, ◌==◌, ◌⊎◌, nat_lt, true, false, cond, not, IsTrue, List, [], ◌∷◌, ◌++◌, length, drop, All, Option, Some, None, is_some, unwrap_or, refl, ap, subst, sym, ◌∙◌, arith, inl, inr, length-drop, lit<, Bool}
 use Rattle.std.specs.Prelude.{Result, Ok, Err}
 use Rattle.std.proofs.lemmas.Bool.{and_parts, cases_Bool, cases_lt, cond-false, cond-true, eqb-false, eqb-true, lt-ltb, ltb-true}
 use Rattle.std.proofs.lemmas.Bool.Decides.{nat_tests}
@@ -33,7 +33,7 @@ use Rattle.mon_tables.proofs.WordBits.{ppn_of-leaf}
 use Rattle.mon_host.specs.Laws.{AnswersBy, HappensIn, SpacesHaveLeaves, WordChanges, WordTells, map_refusal_in, mirror_words, new_mapping, places_of, unmap_refusal_in, word_in}
 use Rattle.mon_host.specs.Leaves.{can_be_mapped, if_done, leaf_slot}
 use Rattle.mon_host.specs.Mapping.{map_refusal}
-use Rattle.mon_host.specs.Unmapping.{IsHostLeaf, page_of_leaf, unmap_refusal}
+use Rattle.mon_host.specs.Unmapping.{HaveHostLeaves, IsHostLeaf, page_of_leaf, unmap_refusal}
 
 -- ---- where a leaf stands
 
@@ -52,7 +52,18 @@ mapped-IsSlot tables va can =
     let leaf : leaf_slot tables va ≡ (2 + n / 512, 8 * (n % 512)) = ap (λ (o : Option (ℕ × ℕ)). unwrap_or o (0, 0)) is in
     record { vpn_below = below; slot_is = is ∙ ap Some (sym leaf); leaf_is = leaf }
 
+-- the slot of a page that has one
+has_slot : (tables vpn : ℕ) (slot : ℕ × ℕ) → host_slot tables vpn ≡ Some slot → (vpn < 512 * tables) × ((2 + vpn / 512, 8 * (vpn % 512)) ≡ slot)
+has_slot tables vpn slot is = elim (cases_Bool (nat_lt vpn (512 * tables))) [
+  | inl there ↦ (ltb-true vpn (512 * tables) there, same_Some _ _ (sym (cond-true _ _ _ there) ∙ is))
+  | inr none ↦ absurd (none_some slot (sym (cond-false _ _ _ none) ∙ is))
+]
+
 -- ---- words of pages
+
+-- a word is read back from its bytes
+pub read_back : (word : ℕ) → word < 2 ^ 64 → little_number 8 (little_bytes 8 word) ≡ word
+read_back word fits = ap (little_number 8) (sym (append-nil (little_bytes 8 word))) ∙ little_number-reads_back 8 word [] fits
 
 module _ (x y : CtlData) where
   -- the word of a page, from the page's bytes
@@ -68,6 +79,15 @@ module _ (x y : CtlData) where
       let p : ℕ = word_address page k / 4096 - 0x80000 in
       let p_is : p ≡ page = omega arith in
       same_page p (word_address page k % 4096) (omega arith) (stays.mirror_pages p (omega arith))
+
+  stayed_leaves : (tables : ℕ) → 2 + tables ≤ 64 * x.zones → y.zones ≡ x.zones → BothStay x y → HaveHostLeaves tables x → HaveHostLeaves tables y
+  stayed_leaves tables guarded zones stays leaves vpn slot is =
+      let has = has_slot tables vpn slot is in
+      let first : 2 + vpn / 512 ≡ slot.0 = ap (λ (s : ℕ × ℕ). s.0) has.1 in
+      let second : 8 * (vpn % 512) ≡ slot.1 = ap (λ (s : ℕ × ℕ). s.1) has.1 in
+      let same : word_at y.mirror slot.0 slot.1 ≡ word_at x.mirror slot.0 slot.1 = same_page slot.0 slot.1 (omega arith) (stays.mirror_pages slot.0 (omega (arith, has.0))) in
+      subst (λ w. (w ≡ 0) ⊎ IsHostLeaf (64 * y.zones) w) (sym same)
+      (subst (λ n. (word_at x.mirror slot.0 slot.1 ≡ 0) ⊎ IsHostLeaf (64 * n) (word_at x.mirror slot.0 slot.1)) (sym zones) (leaves vpn slot is))
 
   module _ (slot : ℕ × ℕ) (word : ℕ) (sized : length x.mirror ≡ memory_size x.zones) (there : slot.0 < 64 * x.zones) (inside : slot.1 < 4096) (aligned : slot.1 % 8 ≡ 0) (fits : word < 2 ^ 64)
       (change : WordChanges slot word x y) where
@@ -93,10 +113,7 @@ module _ (x y : CtlData) where
     word_now : word_at y.mirror slot.0 slot.1 ≡ word
     word_now =
         let read : bytes_at written slot.1 8 ≡ little_bytes 8 word = subst (λ n. bytes_at written slot.1 n ≡ little_bytes 8 word) long (bytes_at-with_bytes bytes slot.1 (little_bytes 8 word) fits_in) in
-        word_of_page y.mirror slot.0 slot.1 (omega arith) ∙ ap (λ (b : List ℕ). little_number 8 (bytes_at b slot.1 8)) own_page ∙ ap (little_number 8) read ∙ read_back
-      where
-        read_back : little_number 8 (little_bytes 8 word) ≡ word
-        read_back = ap (little_number 8) (sym (append-nil (little_bytes 8 word))) ∙ little_number-reads_back 8 word [] fits
+        word_of_page y.mirror slot.0 slot.1 (omega arith) ∙ ap (λ (b : List ℕ). little_number 8 (bytes_at b slot.1 8)) own_page ∙ ap (little_number 8) read ∙ read_back word fits
 
     -- another word
     other_word : (page at : ℕ) → page < 64 * x.zones → at < 4096 → at % 8 ≡ 0 → (page ≢ slot.0) ⊎ (at ≢ slot.1) → word_at y.mirror page at ≡ word_at x.mirror page at
@@ -114,6 +131,28 @@ module _ (x y : CtlData) where
           ] in
           word_of_page y.mirror page at (omega arith) ∙ ap (λ (b : List ℕ). little_number 8 (bytes_at b at 8)) now ∙ ap (little_number 8) (stays ∙ was) ∙ sym (word_of_page x.mirror page at (omega arith))
     ]
+
+    -- leaves stay those of pages, where the word is one of them
+    changed_leaves : (tables : ℕ) → 2 + tables ≤ 64 * x.zones → y.zones ≡ x.zones → (word ≡ 0) ⊎ IsHostLeaf (64 * x.zones) word → HaveHostLeaves tables x → HaveHostLeaves tables y
+    changed_leaves tables guarded zones leaf leaves vpn other is =
+        let has = has_slot tables vpn other is in
+        let first : 2 + vpn / 512 ≡ other.0 = ap (λ (s : ℕ × ℕ). s.0) has.1 in
+        let second : 8 * (vpn % 512) ≡ other.1 = ap (λ (s : ℕ × ℕ). s.1) has.1 in
+        let Leaf : ℕ → Type 0 = λ w. (w ≡ 0) ⊎ IsHostLeaf (64 * y.zones) w in
+        let was : Leaf (word_at x.mirror other.0 other.1) = subst (λ n. (word_at x.mirror other.0 other.1 ≡ 0) ⊎ IsHostLeaf (64 * n) (word_at x.mirror other.0 other.1)) (sym zones) (leaves vpn other is) in
+        let elsewhere = λ (apart : (other.0 ≢ slot.0) ⊎ (other.1 ≢ slot.1)).
+        subst Leaf (sym (other_word other.0 other.1 (omega (arith, has.0)) (omega arith) (omega arith) apart)) was in
+        elim (cases_Bool (other.0 == slot.0)) [
+          | inr differs ↦ elsewhere (inl (eqb-false other.0 slot.0 differs))
+          | inl same ↦ elim (cases_Bool (other.1 == slot.1)) [
+            | inr differs ↦ elsewhere (inr (eqb-false other.1 slot.1 differs))
+            | inl equal ↦
+                let page_is : other.0 ≡ slot.0 = eqb-true other.0 slot.0 same in
+                let at_is : other.1 ≡ slot.1 = eqb-true other.1 slot.1 equal in
+                let now : word_at y.mirror other.0 other.1 ≡ word = ap (λ n. word_at y.mirror n other.1) page_is ∙ ap (word_at y.mirror slot.0) at_is ∙ word_now in
+                subst Leaf (sym now) (subst (λ n. (word ≡ 0) ⊎ IsHostLeaf (64 * n) word) (sym zones) leaf)
+          ]
+        ]
 
     -- so the tables have this word, and all others as before
     changed_words : (page k : ℕ) → page < 64 * x.zones → k < 512 → mirror_words y (word_address page k) ≡ with_word (mirror_words x) (slot_address slot) word (word_address page k)
@@ -137,13 +176,6 @@ module _ (x y : CtlData) where
         ]
 
 -- ---- tables
-
--- the slot of a page that has one
-has_slot : (tables vpn : ℕ) (slot : ℕ × ℕ) → host_slot tables vpn ≡ Some slot → (vpn < 512 * tables) × ((2 + vpn / 512, 8 * (vpn % 512)) ≡ slot)
-has_slot tables vpn slot is = elim (cases_Bool (nat_lt vpn (512 * tables))) [
-  | inl there ↦ (ltb-true vpn (512 * tables) there, same_Some _ _ (sym (cond-true _ _ _ there) ∙ is))
-  | inr none ↦ absurd (none_some slot (sym (cond-false _ _ _ none) ∙ is))
-]
 
 -- tables that have the same words stand for the same space
 same_tables : (tables : ℕ) (words now : ℕ → ℕ) (space : List Mapping) → tables ≤ 512 → ((page k : ℕ) → page < 2 + tables → k < 512 → now (word_address page k) ≡ words (word_address page k))
@@ -207,7 +239,7 @@ module _ (walk : HostTablesWalk) (d : List ℕ → List ℕ) {A : Type 0} (table
   happens (Collision place held other) tells = happens_by (Collision place held other) tt (still tells.0)
   happens (Again taken root) tells = absurd tells
 
-leaf_fits : (page : ℕ) (perms : Perms) → page < 2 ^ 32 → IsTrue (are_page_perms perms) → leaf_word page perms Super < 2 ^ 64
+pub leaf_fits : (page : ℕ) (perms : Perms) → page < 2 ^ 32 → IsTrue (are_page_perms perms) → leaf_word page perms Super < 2 ^ 64
 leaf_fits page perms small allowed =
     let bits : perms.0 ≤ 7 = grind (arith, nat_tests) in
     elim (cases_Bool (grants perms Store)) [
@@ -252,6 +284,32 @@ module _ (walk : HostTablesWalk) (d : List ℕ → List ℕ) (tables : ℕ) (few
       let left : List Mapping = without_vpn space (vpn_of va).0 in
       happens walk d tables few x y guarded space left slot unmap_refusal 0 page_of_leaf (unmap_refusal_in space va) stand (unmap_refusal_same (mapping_at space (vpn_of va).0) (word_in x slot) word_is)
       (λ none change. with_word_stands 0 left (lit< tt) change (clears tables (mirror_words x) space (vpn_of va).0 slot few at.slot_is stand))
+
+-- ---- leaves stay those of pages
+
+module _ (d : List ℕ → List ℕ) {A : Type 0} (tables : ℕ) (x y : CtlData) (sized : length x.mirror ≡ memory_size x.zones) (guarded : 2 + tables ≤ 64 * x.zones) (zones : y.zones ≡ x.zones) (va : Va)
+    (at : IsSlot tables va) (refusal : ℕ → Option No) (word : ℕ) (value : ℕ → A) (fits : word < 2 ^ 64)
+    (leaf : refusal (word_in x (leaf_slot tables va)) ≡ None → (word ≡ 0) ⊎ IsHostLeaf (64 * x.zones) word) (leaves : HaveHostLeaves tables x) where
+  pub keeps_leaves : (o : Outcome (Result A No)) → AccessTells d (places_of (leaf_slot tables va)) (WordTells (leaf_slot tables va) refusal word value x y) x o y → HaveHostLeaves tables y
+  keeps_leaves (Value (Ok a)) tells =
+      let page : (leaf_slot tables va).0 ≡ 2 + (vpn_of va).0 / 512 = ap (λ (s : ℕ × ℕ). s.0) at.leaf_is in
+      let offset : (leaf_slot tables va).1 ≡ 8 * ((vpn_of va).0 % 512) = ap (λ (s : ℕ × ℕ). s.1) at.leaf_is in
+      changed_leaves x y (leaf_slot tables va) word sized (omega (arith, at.vpn_below)) (omega arith) (omega arith) fits tells.2 tables guarded zones (leaf tells.0) leaves
+  keeps_leaves (Value (Err cause)) tells = stayed_leaves x y tables guarded zones tells.1 leaves
+  keeps_leaves (Fault place) tells = stayed_leaves x y tables guarded zones tells.0 leaves
+  keeps_leaves (Collision place held other) tells = stayed_leaves x y tables guarded zones tells.0 leaves
+  keeps_leaves (Again taken root) tells = absurd tells
+
+-- a page that may be mapped is the host's
+none_refused : (mapped host : Bool) (page : ℕ) → first_refusal (refuse mapped Mapped ∷ refuse (not host) (NotYours page) ∷ []) ≡ None → host ≡ true
+none_refused true host page none = cc
+none_refused false true page none = refl
+none_refused false false page none = cc
+
+pub new_leaf : (owners : List Owner) (page word pages : ℕ) (perms : Perms) → IsTrue (are_page_perms perms) → (is_host (owner_at owners page) ≡ true → page < pages) → map_refusal owners page word ≡ None
+    → (leaf_word page perms Super ≡ 0) ⊎ IsHostLeaf pages (leaf_word page perms Super)
+new_leaf owners page word pages perms allowed inside none =
+    inr (record { page = page; perms = perms; inside = inside (none_refused (not (word == 0)) (is_host (owner_at owners page)) page none); allowed = allowed; is = refl })
 
 -- ---- the page that a leaf names
 

@@ -15,6 +15,7 @@ use Rattle.pl_base.specs.declared.refusal.No.TheVariants as no
 use Rattle.mem_geom.specs.PathPlaces.{word_places}
 use Rattle.mem_ctl.specs.Access.{Accessed, BothChange, BothStay}
 use Rattle.mem_ctl.specs.Data.{CtlData, Going, Outcome, Value, Fault, Collision, Again, answer}
+use Rattle.mem_ctl.specs.Start.{HasWords}
 use Rattle.mem_ctl.specs.TreesHold.{IsKept}
 use Rattle.mem_ctl.specs.Writes.{word_at}
 use Rattle.mon_fence.specs.declared.fences.Fence.{Fence}
@@ -23,7 +24,7 @@ use Rattle.mon_owner.specs.declared.owners.Owner.{Owner}
 use Rattle.mon_owner.specs.Owners.{is_host, owner_at}
 use Rattle.mon_tables.specs.Space.{Mapping, mapping_at, without_vpn}
 use Rattle.mon_tables.specs.SpaceWalks.{HostTables, IsMappable, WalksTo}
-use Rattle.mon_tables.specs.Tables.{root_of}
+use Rattle.mon_tables.specs.Tables.{root_of, start_words}
 use Rattle.mon_tables.specs.Words.{leaf_word}
 use Rattle.mon_host.specs.Leaves.{HostEvent, can_be_mapped, early_refusal, host_space, if_done, leaf_slot}
 use Rattle.mon_host.specs.Mapping.{map_of, map_refusal}
@@ -102,6 +103,11 @@ abbrev pub SpacesHaveLeaves : Type 0
 SpacesHaveLeaves = (tables : ℕ) (x : CtlData) (space : List Mapping) → 2 + tables ≤ 64 * x.zones → LeadInside (64 * x.zones) space
     → HostTables tables (mirror_words x) space → HaveHostLeaves tables x
 
+-- memory that has the start words of the host's tables stands for the empty space
+abbrev pub StartsInEmptySpace : Type 0
+StartsInEmptySpace = (tables : ℕ) (x : CtlData) → tables ≤ 32 → 2 + tables ≤ 64 * x.zones → HasWords (64 * x.zones) (start_words tables) x.mirror
+    → HostTables tables (mirror_words x) []
+
 -- ---- what holds of the events
 
 module _ (digest_of : List ℕ → List ℕ) where
@@ -122,6 +128,10 @@ module _ (digest_of : List ℕ → List ℕ) where
         → tables ≤ 32 → 2 + tables ≤ 64 * g.ctl.zones → page < 2 ^ 32 → IsTrue (are_page_perms perms) → early_refusal tables fences va ≡ None → HostTables tables (mirror_words g.ctl) space
         → let r = (map_of digest_of tables fences owners va page perms g).step in
         HappensIn tables (map_refusal_in space owners va page) (space ++ new_mapping va page perms ∷ []) space r.outcome r.after.ctl
+    -- leaves stay those of pages, where a host page is one
+    pub keeps : (tables : ℕ) (fences : List (Option Fence)) (owners : List Owner) (va : Va) (page : ℕ) (perms : Perms) (g : Going) → IsKept digest_of g.ctl → 2 + tables ≤ 64 * g.ctl.zones
+        → page < 2 ^ 32 → (is_host (owner_at owners page) ≡ true → page < 64 * g.ctl.zones) → IsTrue (are_page_perms perms) → HaveHostLeaves tables g.ctl
+        → HaveHostLeaves tables (map_of digest_of tables fences owners va page perms g).step.after.ctl
 
   pub record UnmapsTell : Type 0 where
     pub at_once : (tables : ℕ) (fences : List (Option Fence)) (h : ℕ) (va : Va) (g : Going) (cause : No) → early_refusal tables fences va ≡ Some cause
@@ -138,3 +148,5 @@ module _ (digest_of : List ℕ → List ℕ) where
     pub page : (tables : ℕ) (fences : List (Option Fence)) (h : ℕ) (va : Va) (g : Going) (space : List Mapping) (page : ℕ) → IsKept digest_of g.ctl → 2 + tables ≤ 64 * g.ctl.zones
         → All IsMappable space → HostTables tables (mirror_words g.ctl) space → (unmap_begun digest_of tables fences h va g).step.outcome ≡ Value (Ok page)
         → (m : Mapping) × (mapping_at space (vpn_of va).0 ≡ Some m) × (m.page ≡ page)
+    pub keeps : (tables : ℕ) (fences : List (Option Fence)) (h : ℕ) (va : Va) (g : Going) → IsKept digest_of g.ctl → 2 + tables ≤ 64 * g.ctl.zones → HaveHostLeaves tables g.ctl
+        → HaveHostLeaves tables (unmap_begun digest_of tables fences h va g).step.after.ctl

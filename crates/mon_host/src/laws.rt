@@ -1,7 +1,7 @@
 // What the events of the host's mappings come to. Each law is the contract of a function that does nothing.
 ghost use Rattle.std.specs.Prelude.{List, ℕ};
 ghost use Rattle.mem_tree.specs.Trees.{HasDigests};
-ghost use Rattle.mon_host.specs.Laws.{MapsTell, SpacesHaveLeaves, UnmapsTell};
+ghost use Rattle.mon_host.specs.Laws.{MapsTell, SpacesHaveLeaves, StartsInEmptySpace, UnmapsTell};
 
 use mon_tables::host_tables_walk;
 
@@ -26,3 +26,10 @@ pub fn unmaps_tell()
 pub fn spaces_have_leaves()
     ensures { SpacesHaveLeaves }
 {}
+
+/// Memory that has the start words of the host's tables stands for the empty space.
+pub fn starts_in_empty_space()
+    ensures { StartsInEmptySpace }
+{
+    host_tables_walk();
+}

@@ -7,6 +7,9 @@ use mon_fence::Fences;
 use mon_tables::host_slot;
 use pl_base::{No, PAGE_BYTES, Space, Va, Vpn};
 
+/// The bytes of a word.
+pub(crate) const WORD_BYTES: u8 = 8;
+
 /// Page and offset of the leaf's word of an address.
 ///
 /// Refused in this order: `BadAddress` where it isn't a page's address, or is past those that the last-level tables reach; `Busy` where a

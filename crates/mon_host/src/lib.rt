@@ -8,6 +8,9 @@ mod leaves;
 mod mapping;
 mod unmapping;
 
-pub use laws::{maps_tell, spaces_have_leaves, unmaps_tell};
+pub use laws::{maps_tell, spaces_have_leaves, starts_in_empty_space, unmaps_tell};
 pub use mapping::map;
 pub use unmapping::{unmap_begin, unmap_end};
+
+#[cfg(test)]
+mod tests;

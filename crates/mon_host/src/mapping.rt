@@ -3,12 +3,13 @@ ghost use Rattle.std.specs.Prelude.{◌≡◌, ◌+◌, ◌*◌, ◌≤◌, IsTr
 ghost use Rattle.std.specs.Fn.{FnReturnsAt};
 ghost use Rattle.pl_base.specs.Perms.{are_page_perms};
 ghost use Rattle.mem_slots.specs.Choices.{NamesPosition};
+ghost use Rattle.mem_ctl.specs.Access.{Leaves};
 ghost use Rattle.mem_ctl.specs.Stops.{step_answer};
 ghost use Rattle.mon_owner.specs.Owners.{is_host, may_be_mapped, owner_at};
 ghost use Rattle.mon_host.specs.Leaves.{IsHostEvent};
 ghost use Rattle.mon_host.specs.Mapping.{map_of, map_refusal};
 
-use crate::leaves::leaf_slot;
+use crate::leaves::{WORD_BYTES, leaf_slot};
 use mem_ctl::{Ctl, Stop};
 use mem_slots::SlotUse;
 use mon_fence::Fences;
@@ -16,9 +17,6 @@ use mon_owner::{Owner, Owners};
 use mon_tables::leaf_word;
 use pl_base::{Mode, No, Perms, Va};
 use pl_digest::Digester;
-
-/// The bytes of a word.
-const WORD_BYTES: u8 = 8;
 
 /// Maps a page of the host at an address, and counts the mapping.
 ///
@@ -38,8 +36,10 @@ pub fn map<D: Digester, F: Fn(&[SlotUse]) -> usize>(
     requires few { IsTrue (is_host (owner_at owners.old page)) → IsTrue (may_be_mapped (owner_at owners.old page)) }
     requires choice { NamesPosition F.Fn ctl.old.1 }
     ensures event { IsHostEvent (FnReturnsAt F.Fn ctl.old.1) (map_of D.digest_of tables fences.now owners.old va page perms) ctl.old.0 (step_answer result) ctl.new.0 owners.new }
+    ensures leaves { Leaves D.digest_of ctl.old.0 ctl.new.0 }
     ensures choice { ctl.new.1 ≡ ctl.old.1 }
 {
+    ctl.trees_hold();
     let (at, offset) = match leaf_slot(fences, tables, va) {
         Ok(slot) => slot,
         Err(cause) => return Err(Stop::No(cause)),

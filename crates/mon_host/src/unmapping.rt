@@ -4,6 +4,7 @@ ghost use Rattle.std.specs.Fn.{FnReturnsAt};
 ghost use Rattle.std.specs.Option.{IsSomeAnd};
 ghost use Rattle.rv_sv39.specs.Word.{ppn_of};
 ghost use Rattle.mem_slots.specs.Choices.{NamesPosition};
+ghost use Rattle.mem_ctl.specs.Access.{Leaves};
 ghost use Rattle.mem_ctl.specs.Stops.{step_answer};
 ghost use Rattle.mon_fence.specs.Fences.{fence_of};
 ghost use Rattle.mon_owner.specs.Owners.{is_mapped, owner_at};
@@ -11,7 +12,7 @@ ghost use Rattle.mon_tables.specs.Words.{ppn_of_page};
 ghost use Rattle.mon_host.specs.Leaves.{IsHostEvent};
 ghost use Rattle.mon_host.specs.Unmapping.{HaveHostLeaves, page_of_leaf, unmap_begun, unmap_ended};
 
-use crate::leaves::leaf_slot;
+use crate::leaves::{WORD_BYTES, leaf_slot};
 use mem_ctl::{Ctl, Stop};
 use mem_geom::MEMORY_START;
 use mem_slots::SlotUse;
@@ -19,9 +20,6 @@ use mon_fence::Fences;
 use mon_owner::Owners;
 use pl_base::{HartNo, No, PAGE_BYTES, Space, Va};
 use pl_digest::Digester;
-
-/// The bytes of a word.
-const WORD_BYTES: u8 = 8;
 
 /// The physical page number of page 0 of off-chip memory.
 const FIRST_PPN: u64 = MEMORY_START / PAGE_BYTES;
@@ -49,8 +47,10 @@ pub fn unmap_begin<D: Digester, F: Fn(&[SlotUse]) -> usize>(
     requires none { fence_of fences.old h.0 ≡ None }
     requires choice { NamesPosition F.Fn ctl.old.1 }
     ensures event { IsHostEvent (FnReturnsAt F.Fn ctl.old.1) (unmap_begun D.digest_of tables fences.old h.0 va) ctl.old.0 (step_answer result) ctl.new.0 fences.new }
+    ensures leaves { Leaves D.digest_of ctl.old.0 ctl.new.0 }
     ensures choice { ctl.new.1 ≡ ctl.old.1 }
 {
+    ctl.trees_hold();
     let (at, offset) = match leaf_slot(fences, tables, va) {
         Ok(slot) => slot,
         Err(cause) => return Err(Stop::No(cause)),

@@ -7,6 +7,7 @@ use Rattle.mon_fence.specs.Fences.{posted}
 use Rattle.mon_host.specs.Leaves.{host_space}
 use Rattle.mon_host.specs.Unmapping.{unmap_begun, unmap_refusal}
 use Rattle.mon_host.proofs.EventLemmas.{event_at_once, event_done, event_read_broke, event_refused, event_write_broke}
+use Rattle.mon_host.proofs.LeafLemmas.{leaf_named}
 use Rattle.mon_host.proofs.unmapping.unmap_begin.Goals as goal
 
 is_mapped_word : (word : ℕ) → word ≢ 0 → unmap_refusal word ≡ None
@@ -41,3 +42,13 @@ returns-clause-event g c =
     event_done (FnReturnsAt g.F.Fn) c.args.ctl.now.1 _ _ _ _ _ _ _ _ _ c.in-Ok.slot c.in-Ok.ensures.refusal c.in-Ok.ensures.slot
     _ c.in_ok-word.word c.in_ok-word.ensures.call (is_mapped_word c.in_ok-word.word c.if-word-eq0.false) c.read_word.new.self.1 c.read_word.ensures.choice 0 refl
     c.in_ok-write_part.field-0 _ _ _ c.page_of_leaf.ensures (c.post.ensures ∙ ap (λ vpn. posted c.args.fences.now c.args.h.0 host_space (Some vpn)) c.vpn.ensures) c.in_ok-write_part.ensures.call
+
+pub page_of_leaf-requires-clause-inside : goal.page_of_leaf-requires-clause-inside
+page_of_leaf-requires-clause-inside g c =
+    (leaf_named c.args.tables c.args.fences.now c.args.va c.args.ctl.now.0 c.in-Ok.slot c.in_ok-word.word c.in-Ok.ensures.refusal c.in-Ok.ensures.slot
+    c.trees_hold.ensures.trees.sizes.few c.requires.leaves c.in_ok-word.ensures.word c.if-word-eq0.false).0
+
+pub page_of_leaf-requires-clause-small : goal.page_of_leaf-requires-clause-small
+page_of_leaf-requires-clause-small g c =
+    (leaf_named c.args.tables c.args.fences.now c.args.va c.args.ctl.now.0 c.in-Ok.slot c.in_ok-word.word c.in-Ok.ensures.refusal c.in-Ok.ensures.slot
+    c.trees_hold.ensures.trees.sizes.few c.requires.leaves c.in_ok-word.ensures.word c.if-word-eq0.false).1
