@@ -5,6 +5,8 @@
 #[cfg(test)]
 mod attack_tests;
 #[cfg(test)]
+mod choice_tests;
+#[cfg(test)]
 mod collision_tests;
 #[cfg(test)]
 mod setup_tests;
