@@ -7,15 +7,17 @@ use Rattle.std.proofs.lemmas.List.Elements.{recursion_from_All}
 use Rattle.pl_base.specs.Bytes.{bytes_at}
 use Rattle.pl_history.specs.declared.line.AttackLine.{AttackLine}
 use Rattle.pl_history.specs.declared.line.AttackLine.TheVariants as attack
+use Rattle.pl_history.specs.declared.line.Line.{Line}
 use Rattle.pl_history.specs.declared.answer.Answer.{Answer}
 use Rattle.pl_history.specs.declared.answer.Answer.TheVariants as answer_is
 use Rattle.pl_history.specs.declared.answer.Entry.{Entry}
 use Rattle.pl_history.specs.declared.setup.SetupParts.{SetupParts}
-use Rattle.pl_history.specs.Attacking.{Placed, keeps_name, kept_part, latest_kept, AllowedWrote, AllowedKept}
+use Rattle.pl_history.specs.Answering.{change_by, progressed, unchanged}
+use Rattle.pl_history.specs.Attacking.{Placed, keeps_name, kept_part, latest_kept, written, AllowedWrote, AllowedKept}
 use Rattle.pl_history.specs.History.{part_end, named_part, NamesPart}
-use Rattle.pl_history.specs.Legal.{ActorLine, of_hart, of_attacker, line_at, AllowedAttack, AllowedLine, Allowed, after_line, after, state_after, AllAllowed}
+use Rattle.pl_history.specs.Legal.{ActorLine, of_hart, of_attacker, line_at, AllowedAnswer, AllowedAttack, AllowedLine, Allowed, attack_changes, changes, after_line, after, state_after, AllAllowed}
 use Rattle.pl_history.specs.Laws.{OneMoreIsLegal, OneMoreGives, MoreBytesLeaveLegal, MoreBytesLeaveState}
-use Rattle.pl_history.specs.Monitor.{Monitor, opening}
+use Rattle.pl_history.specs.Monitor.{Monitor, Progress, opening, with_progress}
 
 -- ---- one more entry
 
@@ -32,16 +34,54 @@ AllAllowed-append setup bytes s before (x ∷ xs) ys p q = (
       (subst (λ b. AllAllowed setup bytes (state_after setup bytes s (x ∷ xs)) b ys) (sym (append_assoc before (x ∷ []) xs)) q),
 )
 
--- what each answer leaves of a state holds after all of them
-pub holds_after : (setup : SetupParts) (bytes : List ℕ) (Holds : Monitor → Type 0)
-    → ((s : Monitor) (before : List Entry) (entry : Entry) (line : ActorLine) → Holds s → AllowedLine setup bytes s before line (s.progress entry.actor).begun entry.answer
-    → Holds (after_line s entry.actor (named_part bytes entry.answer) entry.answer line))
-    → (s : Monitor) (before entries : List Entry) → Holds s → AllAllowed setup bytes s before entries → Holds (state_after setup bytes s entries)
-holds_after setup bytes Holds one s before [] k allowed = k
-holds_after setup bytes Holds one s before (entry ∷ entries) k allowed =
-    holds_after setup bytes Holds one (after setup bytes s entry) (before ++ entry ∷ []) entries
-    (subst (λ (o : Option ActorLine). Holds (option_map_or (after_line s entry.actor (named_part bytes entry.answer) entry.answer) o s)) (sym allowed.0.1.1) (one s before entry allowed.0.1.0 k allowed.0.1.2))
-    allowed.1
+-- where no answer changes a state, each leaves what holds of it
+pub unchanged_holds : (Holds : Monitor → Type 0) (s : Monitor) (now : Answer) → Holds s → Holds (change_by (unchanged s) now)
+unchanged_holds Holds s answer_is.Begun k = k
+unchanged_holds Holds s answer_is.Ok k = k
+unchanged_holds Holds s (answer_is.Value value) k = k
+unchanged_holds Holds s (answer_is.Word word) k = k
+unchanged_holds Holds s (answer_is.Left count why) k = k
+unchanged_holds Holds s (answer_is.No cause) k = k
+unchanged_holds Holds s (answer_is.Wrote changed at from len) k = k
+unchanged_holds Holds s (answer_is.Kept at from len) k = k
+
+-- What holds of states, however far their actors are, and whatever the attacker wrote: what each answer to a hart's line leaves of it
+-- holds after all answers.
+module _ (setup : SetupParts) (bytes : List ℕ) (Holds : Monitor → Type 0)
+    (of_progress : (s : Monitor) (actor : ℕ) (now : Progress) → Holds s → Holds (with_progress s actor now))
+    (of_written : (s : Monitor) (now : Placed) (changed : Bool) → Holds s → Holds (written s now changed))
+    (of_line : (s : Monitor) (hart : ℕ) (line : Line) (begun : Bool) (now : Answer) → Holds s → AllowedAnswer setup s line begun now → Holds (change_by (changes s hart line begun) now)) where
+  attack_holds : (s : Monitor) (part : List ℕ) (line : AttackLine) (now : Answer) → Holds s → Holds (change_by (attack_changes s part line) now)
+  attack_holds s part (attack.Write pa new) (answer_is.Wrote changed at from len) k = of_written s (record { address = at; bytes = part }) changed k
+  attack_holds s part (attack.Back name) (answer_is.Wrote changed at from len) k = of_written s (record { address = at; bytes = part }) changed k
+  attack_holds s part (attack.Keep name pa len) now k = unchanged_holds Holds s now k
+  attack_holds s part (attack.After actor count) now k = unchanged_holds Holds s now k
+  attack_holds s part line now k = k
+
+  progressed_holds : (s : Monitor) (actor : ℕ) (now : Answer) → Holds s → Holds (progressed s actor now)
+  progressed_holds s actor answer_is.Begun k = of_progress s actor _ k
+  progressed_holds s actor answer_is.Ok k = of_progress s actor _ k
+  progressed_holds s actor (answer_is.Value value) k = of_progress s actor _ k
+  progressed_holds s actor (answer_is.Word word) k = of_progress s actor _ k
+  progressed_holds s actor (answer_is.Left count why) k = of_progress s actor _ k
+  progressed_holds s actor (answer_is.No cause) k = of_progress s actor _ k
+  progressed_holds s actor (answer_is.Wrote changed at from len) k = of_progress s actor _ k
+  progressed_holds s actor (answer_is.Kept at from len) k = of_progress s actor _ k
+
+  line_holds : (s : Monitor) (before : List Entry) (entry : Entry) (line : ActorLine) → Holds s
+      → AllowedLine setup bytes s before line (s.progress entry.actor).begun entry.answer → Holds (after_line s entry.actor (named_part bytes entry.answer) entry.answer line)
+  line_holds s before entry (of_hart line) k allowed =
+      progressed_holds (change_by (changes s entry.actor line (s.progress entry.actor).begun) entry.answer) entry.actor entry.answer
+      (of_line s entry.actor line (s.progress entry.actor).begun entry.answer k allowed)
+  line_holds s before entry (of_attacker line) k allowed =
+      progressed_holds (change_by (attack_changes s (named_part bytes entry.answer) line) entry.answer) entry.actor entry.answer (attack_holds s (named_part bytes entry.answer) line entry.answer k)
+
+  pub holds_after : (s : Monitor) (before entries : List Entry) → Holds s → AllAllowed setup bytes s before entries → Holds (state_after setup bytes s entries)
+  holds_after s before [] k allowed = k
+  holds_after s before (entry ∷ entries) k allowed =
+      holds_after (after setup bytes s entry) (before ++ entry ∷ []) entries
+      (subst (λ (o : Option ActorLine). Holds (option_map_or (after_line s entry.actor (named_part bytes entry.answer) entry.answer) o s)) (sym allowed.0.1.1) (line_holds s before entry allowed.0.1.0 k allowed.0.1.2))
+      allowed.1
 
 pub one_more_is_legal : OneMoreIsLegal
 one_more_is_legal setup bytes entries entry legal allowed = AllAllowed-append setup bytes (opening setup) [] entries (entry ∷ []) legal (allowed, tt)

@@ -17,20 +17,17 @@ use Rattle.mon_tables.specs.Space.{Mapping, mapping_at, without_vpn}
 use Rattle.pl_history.specs.declared.answer.Answer.{Answer}
 use Rattle.pl_history.specs.declared.answer.Answer.TheVariants as answer_is
 use Rattle.pl_history.specs.declared.answer.Entry.{Entry}
-use Rattle.pl_history.specs.declared.line.AttackLine.{AttackLine}
-use Rattle.pl_history.specs.declared.line.AttackLine.TheVariants as attack
 use Rattle.pl_history.specs.declared.line.Line.{Line}
 use Rattle.pl_history.specs.declared.line.Line.TheVariants as line_is
 use Rattle.pl_history.specs.declared.setup.SetupParts.{SetupParts}
-use Rattle.pl_history.specs.Answering.{change_by, progressed, unchanged}
+use Rattle.pl_history.specs.Answering.{change_by}
 use Rattle.pl_history.specs.Attacking.{Placed, written}
-use Rattle.pl_history.specs.History.{named_part}
 use Rattle.pl_history.specs.HostAccess.{mapping_used, store_to}
 use Rattle.pl_history.specs.HostMappings.{LegalMappings, MappingsStand}
 use Rattle.pl_history.specs.HostMaps.{can_be_mapped, map_refusal, removing_of}
-use Rattle.pl_history.specs.Legal.{ActorLine, of_hart, of_attacker, AllAllowed, AllowedAnswer, AllowedLine, after_line, attack_changes, changes, state_after}
+use Rattle.pl_history.specs.Legal.{AllAllowed, AllowedAnswer, changes, state_after}
 use Rattle.pl_history.specs.Monitor.{Monitor, Removal, is_host, opening, removed_at}
-use Rattle.pl_history.proofs.HistoryLemmas.{holds_after}
+use Rattle.pl_history.proofs.HistoryLemmas.{holds_after, unchanged_holds}
 use Rattle.pl_history.proofs.Elements.{each_counted, few_distinct, filter_counted, found, none_counted, unfound_counted, weaker}
 use Rattle.pl_history.proofs.Refusals.{first_none, refuse_none}
 
@@ -168,19 +165,9 @@ stored_stands : (setup : SetupParts) (s : Monitor) (va : Va) (word : ℕ) (m : O
 stored_stands setup s va word None k = k
 stored_stands setup s va word (Some m) k = k
 
-unchanged_stands : (setup : SetupParts) (s : Monitor) (now : Answer) → Stand setup s → Stand setup (change_by (unchanged s) now)
-unchanged_stands setup s answer_is.Begun k = k
-unchanged_stands setup s answer_is.Ok k = k
-unchanged_stands setup s (answer_is.Value value) k = k
-unchanged_stands setup s (answer_is.Word word) k = k
-unchanged_stands setup s (answer_is.Left count why) k = k
-unchanged_stands setup s (answer_is.No cause) k = k
-unchanged_stands setup s (answer_is.Wrote changed at from len) k = k
-unchanged_stands setup s (answer_is.Kept at from len) k = k
-
 line_stands : (setup : SetupParts) (s : Monitor) (hart : ℕ) (line : Line) (begun : Bool) (now : Answer) → Stand setup s → AllowedAnswer setup s line begun now → Stand setup (change_by (changes s hart line begun) now)
-line_stands setup s hart (line_is.Load va) begun now k allowed = unchanged_stands setup s now k
-line_stands setup s hart (line_is.After actor count) begun now k allowed = unchanged_stands setup s now k
+line_stands setup s hart (line_is.Load va) begun now k allowed = unchanged_holds (Stand setup) s now k
+line_stands setup s hart (line_is.After actor count) begun now k allowed = unchanged_holds (Stand setup) s now k
 line_stands setup s hart (line_is.Store va word) begun answer_is.Ok k allowed = stored_stands setup s va word (mapping_used (mapping_at s.space (vpn_of va).0) (removed_at s.removals (vpn_of va).0)) k
 line_stands setup s hart (line_is.Map va page perms) true answer_is.Ok k allowed = absurd allowed
 line_stands setup s hart (line_is.Map va page perms) false answer_is.Ok k allowed = map_allowed setup s va page perms k allowed.0
@@ -205,31 +192,6 @@ written_stands : (setup : SetupParts) (s : Monitor) (now : Placed) (changed : Bo
 written_stands setup s now true k = k
 written_stands setup s now false k = k
 
-attack_stands : (setup : SetupParts) (s : Monitor) (part : List ℕ) (line : AttackLine) (now : Answer) → Stand setup s → Stand setup (change_by (attack_changes s part line) now)
-attack_stands setup s part (attack.Write pa new) (answer_is.Wrote changed at from len) k = written_stands setup s (record { address = at; bytes = part }) changed k
-attack_stands setup s part (attack.Back name) (answer_is.Wrote changed at from len) k = written_stands setup s (record { address = at; bytes = part }) changed k
-attack_stands setup s part (attack.Keep name pa len) now k = unchanged_stands setup s now k
-attack_stands setup s part (attack.After actor count) now k = unchanged_stands setup s now k
-attack_stands setup s part line now k = k
-
-progressed_stands : (setup : SetupParts) (s : Monitor) (actor : ℕ) (now : Answer) → Stand setup s → Stand setup (progressed s actor now)
-progressed_stands setup s actor answer_is.Begun k = k
-progressed_stands setup s actor answer_is.Ok k = k
-progressed_stands setup s actor (answer_is.Value value) k = k
-progressed_stands setup s actor (answer_is.Word word) k = k
-progressed_stands setup s actor (answer_is.Left count why) k = k
-progressed_stands setup s actor (answer_is.No cause) k = k
-progressed_stands setup s actor (answer_is.Wrote changed at from len) k = k
-progressed_stands setup s actor (answer_is.Kept at from len) k = k
-
-after_stands : (setup : SetupParts) (bytes : List ℕ) (s : Monitor) (before : List Entry) (entry : Entry) (line : ActorLine) → Stand setup s
-    → AllowedLine setup bytes s before line (s.progress entry.actor).begun entry.answer → Stand setup (after_line s entry.actor (named_part bytes entry.answer) entry.answer line)
-after_stands setup bytes s before entry (of_hart line) k allowed =
-    progressed_stands setup (change_by (changes s entry.actor line (s.progress entry.actor).begun) entry.answer) entry.actor entry.answer
-    (line_stands setup s entry.actor line (s.progress entry.actor).begun entry.answer k allowed)
-after_stands setup bytes s before entry (of_attacker line) k allowed =
-    progressed_stands setup (change_by (attack_changes s (named_part bytes entry.answer) line) entry.answer) entry.actor entry.answer (attack_stands setup s (named_part bytes entry.answer) line entry.answer k)
-
 -- ---- whole histories
 
 opening_stands : (setup : SetupParts) → Stand setup (opening setup)
@@ -237,7 +199,7 @@ unfolding opening
 opening_stands setup = record { once = λ vpn. (let none : count_by (λ (m : Mapping). m.vpn == vpn) [] + count_by (λ (r : Removal). r.mapping.vpn == vpn) [] ≡ 0 = refl in omega arith); mapped = All-nil (λ (m : Mapping). m.vpn < 512 * setup.tables); removed = All-nil (λ (r : Removal). r.mapping.vpn < 512 * setup.tables) }
 
 legal_stand : (setup : SetupParts) (bytes : List ℕ) (entries : List Entry) → AllAllowed setup bytes (opening setup) [] entries → Stand setup (state_after setup bytes (opening setup) entries)
-legal_stand setup bytes entries legal = holds_after setup bytes (Stand setup) (after_stands setup bytes) (opening setup) [] entries (opening_stands setup) legal
+legal_stand setup bytes entries legal = holds_after setup bytes (Stand setup) (λ s actor now k. k) (written_stands setup) (line_stands setup) (opening setup) [] entries (opening_stands setup) legal
 
 -- the addresses of both are distinct, and below the number of words
 counted_by : {A : Type 0} (vpn_at : A → ℕ) (v : ℕ) (xs : List A) → count_by (λ x. x == v) (map vpn_at xs) ≡ count_by (λ x. vpn_at x == v) xs

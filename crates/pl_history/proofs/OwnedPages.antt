@@ -16,22 +16,19 @@ use Rattle.mon_tables.specs.Space.{Mapping, count_of_page, mapping_at}
 use Rattle.pl_history.specs.declared.answer.Answer.{Answer}
 use Rattle.pl_history.specs.declared.answer.Answer.TheVariants as answer_is
 use Rattle.pl_history.specs.declared.answer.Entry.{Entry}
-use Rattle.pl_history.specs.declared.line.AttackLine.{AttackLine}
-use Rattle.pl_history.specs.declared.line.AttackLine.TheVariants as attack
 use Rattle.pl_history.specs.declared.line.Line.{Line}
 use Rattle.pl_history.specs.declared.line.Line.TheVariants as line_is
 use Rattle.pl_history.specs.declared.setup.SetupParts.{SetupParts}
 use Rattle.pl_history.specs.Answering.{change_by, progressed, unchanged}
 use Rattle.pl_history.specs.Attacking.{Placed, written}
-use Rattle.pl_history.specs.History.{named_part}
 use Rattle.pl_history.specs.HostAccess.{mapping_used, store_to}
 use Rattle.pl_history.specs.HostMaps.{can_be_mapped, map_refusal, removing_of}
-use Rattle.pl_history.specs.Legal.{ActorLine, of_hart, of_attacker, AllAllowed, AllowedAnswer, AllowedLine, after_line, attack_changes, changes, state_after}
+use Rattle.pl_history.specs.Legal.{AllAllowed, AllowedAnswer, changes, state_after}
 use Rattle.pl_history.specs.Making.{create_refusal, first_barred, first_mapped, first_not_host, fork_refusal, grant_refusal, image_page_count, page_refusals}
-use Rattle.pl_history.specs.Monitor.{Monitor, Number, Owner, Removal, freed, host, is_host, maps_of, number, opening, pages_taken, removed_at, with_number, with_owner}
+use Rattle.pl_history.specs.Monitor.{Monitor, Number, Owner, Progress, Removal, freed, host, is_host, maps_of, number, opening, pages_taken, removed_at, with_number, with_owner, with_progress}
 use Rattle.pl_history.specs.Protection.{pmp_of}
 use Rattle.pl_history.specs.OwnedPages.{LegalPages, PagesApart, PagesStand}
-use Rattle.pl_history.proofs.HistoryLemmas.{holds_after}
+use Rattle.pl_history.proofs.HistoryLemmas.{holds_after, unchanged_holds}
 use Rattle.pl_history.proofs.Elements.{among, both, each_among, each_counted, found, none_passes, weaker}
 use Rattle.pl_history.proofs.Refusals.{first_none, named_none, refuse_none}
 
@@ -261,20 +258,10 @@ module _ (setup : SetupParts) where
   only_ok refusal gives true allowed = absurd allowed
   only_ok refusal gives false allowed = allowed.0
 
-  unchanged_stands : (s : Monitor) (now : Answer) → PagesStand setup s → PagesStand setup (change_by (unchanged s) now)
-  unchanged_stands s answer_is.Begun k = k
-  unchanged_stands s answer_is.Ok k = k
-  unchanged_stands s (answer_is.Value value) k = k
-  unchanged_stands s (answer_is.Word word) k = k
-  unchanged_stands s (answer_is.Left count why) k = k
-  unchanged_stands s (answer_is.No cause) k = k
-  unchanged_stands s (answer_is.Wrote changed at from len) k = k
-  unchanged_stands s (answer_is.Kept at from len) k = k
-
   -- what an answer to a hart's line changes leaves the pages standing
   line_stands : (s : Monitor) (hart : ℕ) (line : Line) (begun : Bool) (now : Answer) → PagesStand setup s → AllowedAnswer setup s line begun now → PagesStand setup (change_by (changes s hart line begun) now)
-  line_stands s hart (line_is.Load va) begun now k allowed = unchanged_stands s now k
-  line_stands s hart (line_is.After actor count) begun now k allowed = unchanged_stands s now k
+  line_stands s hart (line_is.Load va) begun now k allowed = unchanged_holds (PagesStand setup) s now k
+  line_stands s hart (line_is.After actor count) begun now k allowed = unchanged_holds (PagesStand setup) s now k
   line_stands s hart (line_is.Store va word) begun answer_is.Ok k allowed = store_stands s k va word (mapping_used (mapping_at s.space (vpn_of va).0) (removed_at s.removals (vpn_of va).0))
   line_stands s hart (line_is.Map va page perms) true answer_is.Ok k allowed = absurd allowed
   line_stands s hart (line_is.Map va page perms) false answer_is.Ok k allowed = map_stands s k (record { vpn = (vpn_of va).0; page = page; perms = perms }) (map_takes s k va page allowed.0)
@@ -310,29 +297,8 @@ module _ (setup : SetupParts) where
   written_stands s now true k = same_pages s (written s now true) refl refl refl (λ e. refl) k
   written_stands s now false k = same_pages s (written s now false) refl refl refl (λ e. refl) k
 
-  attack_stands : (s : Monitor) (part : List ℕ) (line : AttackLine) (now : Answer) → PagesStand setup s → PagesStand setup (change_by (attack_changes s part line) now)
-  attack_stands s part (attack.Write pa new) (answer_is.Wrote changed at from len) k = written_stands s (record { address = at; bytes = part }) changed k
-  attack_stands s part (attack.Back name) (answer_is.Wrote changed at from len) k = written_stands s (record { address = at; bytes = part }) changed k
-  attack_stands s part (attack.Keep name pa len) now k = unchanged_stands s now k
-  attack_stands s part (attack.After actor count) now k = unchanged_stands s now k
-  attack_stands s part line now k = k
-
-  progressed_stands : (s : Monitor) (actor : ℕ) (now : Answer) → PagesStand setup s → PagesStand setup (progressed s actor now)
-  progressed_stands s actor answer_is.Begun k = same_pages s (progressed s actor answer_is.Begun) refl refl refl (λ e. refl) k
-  progressed_stands s actor answer_is.Ok k = same_pages s (progressed s actor answer_is.Ok) refl refl refl (λ e. refl) k
-  progressed_stands s actor (answer_is.Value value) k = same_pages s (progressed s actor (answer_is.Value value)) refl refl refl (λ e. refl) k
-  progressed_stands s actor (answer_is.Word word) k = same_pages s (progressed s actor (answer_is.Word word)) refl refl refl (λ e. refl) k
-  progressed_stands s actor (answer_is.Left count why) k = same_pages s (progressed s actor (answer_is.Left count why)) refl refl refl (λ e. refl) k
-  progressed_stands s actor (answer_is.No cause) k = same_pages s (progressed s actor (answer_is.No cause)) refl refl refl (λ e. refl) k
-  progressed_stands s actor (answer_is.Wrote changed at from len) k = same_pages s (progressed s actor (answer_is.Wrote changed at from len)) refl refl refl (λ e. refl) k
-  progressed_stands s actor (answer_is.Kept at from len) k = same_pages s (progressed s actor (answer_is.Kept at from len)) refl refl refl (λ e. refl) k
-
-  after_stands : (bytes : List ℕ) (s : Monitor) (before : List Entry) (entry : Entry) (line : ActorLine) → PagesStand setup s
-      → AllowedLine setup bytes s before line (s.progress entry.actor).begun entry.answer → PagesStand setup (after_line s entry.actor (named_part bytes entry.answer) entry.answer line)
-  after_stands bytes s before entry (of_hart line) k allowed =
-      progressed_stands (change_by (changes s entry.actor line (s.progress entry.actor).begun) entry.answer) entry.actor entry.answer (line_stands s entry.actor line (s.progress entry.actor).begun entry.answer k allowed)
-  after_stands bytes s before entry (of_attacker line) k allowed =
-      progressed_stands (change_by (attack_changes s (named_part bytes entry.answer) line) entry.answer) entry.actor entry.answer (attack_stands s (named_part bytes entry.answer) line entry.answer k)
+  progress_stands : (s : Monitor) (actor : ℕ) (now : Progress) → PagesStand setup s → PagesStand setup (with_progress s actor now)
+  progress_stands s actor now k = same_pages s (with_progress s actor now) refl refl refl (λ e. refl) k
 
   -- ---- whole histories
 
@@ -341,7 +307,7 @@ module _ (setup : SetupParts) where
   opening_stands = record { mapped = All-nil _; removed = All-nil _; taken = λ e. All-nil _; allowed = λ e. All-nil _ }
 
   legal_stand : (bytes : List ℕ) (entries : List Entry) → AllAllowed setup bytes (opening setup) [] entries → PagesStand setup (state_after setup bytes (opening setup) entries)
-  legal_stand bytes entries legal = holds_after setup bytes (PagesStand setup) (after_stands bytes) (opening setup) [] entries opening_stands legal
+  legal_stand bytes entries legal = holds_after setup bytes (PagesStand setup) progress_stands written_stands line_stands (opening setup) [] entries opening_stands legal
 
   -- a page has one owner
   one_number : (o : Option Owner) (e f : ℕ) → o ≡ Some (number e) → o ≡ Some (number f) → e ≡ f

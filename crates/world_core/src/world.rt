@@ -7,7 +7,7 @@ ghost use Rattle.pl_io.specs.Puts.{Puts};
 ghost use Rattle.world_core.specs.Report.{world_report};
 ghost use Rattle.mem_slots.specs.Slots.{use_of};
 ghost use Rattle.pl_history.specs.Rules.{is_actor};
-ghost use Rattle.world_machine.specs.Adding.{AnswersAtMostOne, answering, moves_after};
+ghost use Rattle.world_machine.specs.Adding.{AnswersAtMostOne, actor_number, moves_after};
 ghost use Rattle.world_machine.specs.Reached.{Reached, opening_world};
 ghost use Rattle.world_core.specs.Parts.{collision_data};
 ghost use Rattle.world_machine.specs.Runs.{over_of};
@@ -75,7 +75,7 @@ impl<D: Digester, F: Fn(&[SlotUse]) -> usize> World<D, F> {
         ensures step { StepOf D.digest_of (FnReturnsAt F.Fn self.old.1) self.old.0 actor self.new.0 }
         ensures turned { (positions : List ℕ) → result ≡ turned_by (turn_of D.digest_of self.old.0 actor positions) }
         ensures still { result ≢ Turned.Moved → self.new ≡ self.old }
-        ensures answer { AnswersAtMostOne self.old.0 (answering self.old.0.setup.harts actor) self.new.0 }
+        ensures answer { AnswersAtMostOne self.old.0 (actor_number self.old.0.setup.harts actor) self.new.0 }
         ensures moves { self.new.0.moves ≡ moves_after result self.old.0.moves }
         ensures choice { self.new.1 ≡ self.old.1 }
     {

@@ -36,7 +36,7 @@ use Rattle.world_machine.specs.declared.turned.Turned.TheVariants as turned
 use Rattle.world_machine.specs.declared.turned.Wait.TheVariants as wait
 use Rattle.world_machine.specs.declared.under.Under.{Under}
 use Rattle.world_machine.specs.declared.under.Under.TheVariants.{Idle, Putting, Running}
-use Rattle.world_machine.specs.Adding.{AnswersAtMostOne, answering, moves_after}
+use Rattle.world_machine.specs.Adding.{AnswersAtMostOne, actor_number, moves_after}
 use Rattle.world_machine.specs.Answering.{answers, decided, goes_on}
 use Rattle.world_machine.specs.Attacking.{attacks}
 use Rattle.world_machine.specs.Making.{begin_create, begins_unless, image_of, put_next}
@@ -243,13 +243,13 @@ module _ (digest_of : List ℕ → List ℕ) (w : WorldData) where
   attacker_adds (Some (attack.Keep name pa len)) = attacks_add
   attacker_adds (Some (attack.Back name)) = attacks_add
 
-  actor_adds : (actor : Actor) (positions : List ℕ) → TurnAdds w (answering w.setup.harts actor) (actor_turn digest_of w actor positions)
+  actor_adds : (actor : Actor) (positions : List ℕ) → TurnAdds w (actor_number w.setup.harts actor) (actor_turn digest_of w actor positions)
   actor_adds (actor_is.Hart h) positions = hart_adds h.0 positions (hart_line w h.0)
   actor_adds (actor_is.Ack h) positions = refl
   actor_adds actor_is.Attacker positions = attacker_adds (attacker_line w)
 
   halted_adds : (b : Bool) (actor : Actor) (positions : List ℕ)
-      → TurnAdds w (answering w.setup.harts actor) (if b then rests turned.Halted else actor_turn digest_of w actor positions)
+      → TurnAdds w (actor_number w.setup.harts actor) (if b then rests turned.Halted else actor_turn digest_of w actor positions)
   halted_adds true actor positions = refl
   halted_adds false actor positions = actor_adds actor positions
 
@@ -261,7 +261,7 @@ after_counts : (w : WorldData) (actor : ℕ) (turn : Turn) → TurnAdds w actor 
 after_counts w actor (moves event) adds = ap (moves_after turned.Moved) adds.moves
 after_counts w actor (rests why) adds = sym adds
 
-pub one_answer : (digest_of : List ℕ → List ℕ) (w : WorldData) (step : Step) → AnswersAtMostOne w (answering w.setup.harts step.actor) (stepped digest_of w step)
+pub one_answer : (digest_of : List ℕ → List ℕ) (w : WorldData) (step : Step) → AnswersAtMostOne w (actor_number w.setup.harts step.actor) (stepped digest_of w step)
 unfolding stepped turn_of
 one_answer digest_of w step = after_adds w _ _ (halted_adds digest_of w (is_some w.collision) step.actor step.positions)
 
@@ -272,8 +272,8 @@ one_move digest_of w step = after_counts w _ _ (halted_adds digest_of w (is_some
 
 -- of a step whose positions are the answers of a rule
 module _ (digest_of : List ℕ → List ℕ) (gives : List SlotUse → ℕ → Type 0) (w : WorldData) (actor : Actor) (new : WorldData) (s : StepOf digest_of gives w actor new) where
-  pub step_answers : AnswersAtMostOne w (answering w.setup.harts actor) new
-  step_answers = subst (AnswersAtMostOne w (answering w.setup.harts actor)) (sym s.is) (one_answer digest_of w (record { actor = actor; positions = s.positions }))
+  pub step_answers : AnswersAtMostOne w (actor_number w.setup.harts actor) new
+  step_answers = subst (AnswersAtMostOne w (actor_number w.setup.harts actor)) (sym s.is) (one_answer digest_of w (record { actor = actor; positions = s.positions }))
 
   pub step_counts : (answer : Turned) → ((positions : List ℕ) → answer ≡ turned_by (turn_of digest_of w actor positions)) → new.moves ≡ moves_after answer w.moves
   step_counts answer is = ap (λ (v : WorldData). v.moves) s.is ∙ one_move digest_of w (record { actor = actor; positions = s.positions }) ∙ ap (λ t. moves_after t w.moves) (sym (is s.positions))

@@ -1,11 +1,11 @@
 -- Where the attacker changed no byte, no answer is a fault and no collision is kept.
-use Rattle.std.proofs.Common.{◌≡◌, ℕ, List, [], Option, Some, None, refl, sym, subst}
+use Rattle.std.proofs.Common.{◌≡◌, ℕ, List, [], Option, Some, None, refl, subst}
 use Rattle.std.specs.Prelude.{IsTrue}
 use Rattle.std.specs.List.{list_any}
 use Rattle.std.proofs.lemmas.Bool.{false≢true}
 use Rattle.mem_geom.specs.Ranges.{overlaps_place}
 use Rattle.pl_history.specs.Monitor.{Attack}
-use Rattle.pl_history.specs.Unattacked.{IsFaultless, IsUnattacked}
+use Rattle.pl_history.specs.Unattacked.{IsUnattacked}
 use Rattle.pl_history.proofs.Unattacked.{unattacked_is_faultless}
 use Rattle.world_machine.specs.Endings.{IsUndisturbed}
 use Rattle.world_machine.specs.Standing.{CollisionStands, Kept, state_of}

@@ -9,10 +9,10 @@ use Rattle.world_machine.specs.Answering.{entry_now}
 use Rattle.world_machine.specs.Worlds.{WorldData}
 
 -- whose lines an actor's turn answers; the attacker is the actor after the last hart
-abbrev pub answering : ℕ → Actor → ℕ
-answering harts (actor_is.Hart h) = h.0
-answering harts (actor_is.Ack h) = h.0
-answering harts actor_is.Attacker = harts
+abbrev pub actor_number : ℕ → Actor → ℕ
+actor_number harts (actor_is.Hart h) = h.0
+actor_number harts (actor_is.Ack h) = h.0
+actor_number harts actor_is.Attacker = harts
 
 -- no entry joins the history, or one does: an answer to this actor's first line that isn't answered
 abbrev pub AnswersAtMostOne : WorldData → ℕ → WorldData → Type 0
