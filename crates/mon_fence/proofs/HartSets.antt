@@ -38,7 +38,7 @@ others_than harts h k small is = (
 
 -- ---- exactly the others
 
-has_hart-without_other : (set : HartSet) (h k : ℕ) → h < 8 → k < 8 → k ≢ h → has_hart (without_hart set h) k ≡ has_hart set k
+pub has_hart-without_other : (set : HartSet) (h k : ℕ) → h < 8 → k < 8 → k ≢ h → has_hart (without_hart set h) k ≡ has_hart set k
 has_hart-without_other set h k small below other =
     let whole : 1 * 2 ^ h % 256 ≡ 2 ^ h = (one_shifted h 255 refl small).0 in
     subst (λ n. (bit_at (bit_and set.0 (bit_not w8 n)) k == 1) ≡ has_hart set k) whole (ap (λ bit. bit == 1) (bit_at_clear_other w8 set.0 h small k below other))

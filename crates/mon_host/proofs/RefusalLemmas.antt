@@ -11,8 +11,9 @@ use Rattle.mem_ctl.specs.Calls.{read_word_of, write_part_of}
 use Rattle.mem_ctl.specs.Data.{Going, Outcome, Value, Fault, Collision, Again, After, answer, go_on}
 use Rattle.mon_fence.specs.declared.fences.Fence.{Fence}
 use Rattle.mon_fence.specs.Fences.{covers}
+use Rattle.mon_tables.specs.Tables.{can_be_mapped}
 use Rattle.mon_host.specs.Laws.{IsCovered, is_refused_at_once}
-use Rattle.mon_host.specs.Leaves.{can_be_mapped, early_refusal, event_by, host_space, is_being_removed, step_unless, word_replaced, written_unless}
+use Rattle.mon_host.specs.Leaves.{early_refusal, event_by, host_space, is_being_removed, step_unless, word_replaced, written_unless}
 
 -- ---- the two early causes
 

@@ -26,12 +26,12 @@ use Rattle.mon_owner.specs.declared.owners.Owner.{Owner}
 use Rattle.mon_owner.specs.Owners.{is_host, owner_at}
 use Rattle.mon_tables.specs.Space.{Mapping, mapping_at, without_vpn}
 use Rattle.mon_tables.specs.SpaceWalks.{ClearsMapping, HostTables, HostTablesWalk, IsMappable, SetsMapping, with_word, word_address, word_of}
-use Rattle.mon_tables.specs.Tables.{host_slot, slot_address}
+use Rattle.mon_tables.specs.Tables.{can_be_mapped, host_slot, slot_address}
 use Rattle.mon_tables.specs.Words.{dirty_bit, leaf_word, ppn_of_page}
 use Rattle.mon_tables.proofs.Mappings.{found, none_some, same_Some}
 use Rattle.mon_tables.proofs.WordBits.{ppn_of-leaf}
 use Rattle.mon_host.specs.Laws.{AnswersBy, HappensIn, SpacesHaveLeaves, WordChanges, WordTells, map_refusal_in, mirror_words, new_mapping, places_of, unmap_refusal_in, word_in}
-use Rattle.mon_host.specs.Leaves.{can_be_mapped, if_done, leaf_slot}
+use Rattle.mon_host.specs.Leaves.{if_done, leaf_slot}
 use Rattle.mon_host.specs.Mapping.{map_refusal}
 use Rattle.mon_host.specs.Unmapping.{HaveHostLeaves, IsHostLeaf, page_of_leaf, unmap_refusal}
 
@@ -65,11 +65,11 @@ has_slot tables vpn slot is = elim (cases_Bool (nat_lt vpn (512 * tables))) [
 pub read_back : (word : ℕ) → word < 2 ^ 64 → little_number 8 (little_bytes 8 word) ≡ word
 read_back word fits = ap (little_number 8) (sym (append-nil (little_bytes 8 word))) ∙ little_number-reads_back 8 word [] fits
 
-module _ (x y : CtlData) where
-  -- the word of a page, from the page's bytes
-  word_of_page : (memory : List ℕ) (page at : ℕ) → at + 8 ≤ 4096 → word_at memory page at ≡ little_number 8 (bytes_at (page_bytes memory page) at 8)
-  word_of_page memory page at inside = ap (little_number 8) (sym (bytes_at-bytes_at memory (4096 * page) 4096 at 8 inside))
+-- the word of a page, from the page's bytes
+pub word_of_page : (memory : List ℕ) (page at : ℕ) → at + 8 ≤ 4096 → word_at memory page at ≡ little_number 8 (bytes_at (page_bytes memory page) at 8)
+word_of_page memory page at inside = ap (little_number 8) (sym (bytes_at-bytes_at memory (4096 * page) 4096 at 8 inside))
 
+module _ (x y : CtlData) where
   same_page : (page at : ℕ) → at + 8 ≤ 4096 → page_bytes y.mirror page ≡ page_bytes x.mirror page → word_at y.mirror page at ≡ word_at x.mirror page at
   same_page page at inside same = word_of_page y.mirror page at inside ∙ ap (λ (bytes : List ℕ). little_number 8 (bytes_at bytes at 8)) same ∙ sym (word_of_page x.mirror page at inside)
 
@@ -178,7 +178,7 @@ module _ (x y : CtlData) where
 -- ---- tables
 
 -- tables that have the same words stand for the same space
-same_tables : (tables : ℕ) (words now : ℕ → ℕ) (space : List Mapping) → tables ≤ 512 → ((page k : ℕ) → page < 2 + tables → k < 512 → now (word_address page k) ≡ words (word_address page k))
+pub same_tables : (tables : ℕ) (words now : ℕ → ℕ) (space : List Mapping) → tables ≤ 512 → ((page k : ℕ) → page < 2 + tables → k < 512 → now (word_address page k) ≡ words (word_address page k))
     → HostTables tables words space → HostTables tables now space
 same_tables tables words now space few same stand = record {
   root = λ k small. same 0 k (omega arith) small ∙ stand.root k small;

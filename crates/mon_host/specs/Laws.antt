@@ -24,9 +24,9 @@ use Rattle.mon_owner.specs.declared.owners.Owner.{Owner}
 use Rattle.mon_owner.specs.Owners.{is_host, owner_at}
 use Rattle.mon_tables.specs.Space.{Mapping, mapping_at, without_vpn}
 use Rattle.mon_tables.specs.SpaceWalks.{HostTables, IsMappable, WalksTo}
-use Rattle.mon_tables.specs.Tables.{root_of, start_words}
+use Rattle.mon_tables.specs.Tables.{can_be_mapped, root_of, start_words}
 use Rattle.mon_tables.specs.Words.{leaf_word}
-use Rattle.mon_host.specs.Leaves.{HostEvent, can_be_mapped, early_refusal, host_space, if_done, leaf_slot}
+use Rattle.mon_host.specs.Leaves.{HostEvent, early_refusal, host_space, if_done, leaf_slot}
 use Rattle.mon_host.specs.Mapping.{map_of, map_refusal}
 use Rattle.mon_host.specs.Unmapping.{HaveHostLeaves, page_of_leaf, unmap_begun, unmap_refusal}
 

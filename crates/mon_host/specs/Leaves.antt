@@ -1,6 +1,6 @@
 -- An event of the host at one leaf of its tables: it is refused at once, or the leaf's word is read, and it is refused by that word or
 -- replaces it.
-use Rattle.std.specs.Prelude.{ℕ, ◌≡◌, ◌*◌, ◌%◌, ◌==◌, ◌&&◌, nat_lt, Bool, not, List, [], ◌∷◌, Option, Some, None, unwrap_or, Result, Ok, Err}
+use Rattle.std.specs.Prelude.{ℕ, ◌≡◌, Bool, not, List, [], ◌∷◌, Option, Some, None, unwrap_or, Result, Ok, Err}
 use Rattle.std.specs.List.{list_any}
 use Rattle.pl_base.specs.Address.{vpn_of}
 use Rattle.pl_base.specs.Refusals.{refuse, first_refusal}
@@ -15,17 +15,13 @@ use Rattle.mem_ctl.specs.Results.{AreGiven}
 use Rattle.mem_ctl.specs.Stops.{StepAnswer, Done, Refused, Collided}
 use Rattle.mon_fence.specs.declared.fences.Fence.{Fence}
 use Rattle.mon_fence.specs.Fences.{covers}
-use Rattle.mon_tables.specs.Tables.{host_slot}
+use Rattle.mon_tables.specs.Tables.{can_be_mapped, host_slot}
 
 -- ---- why an event is refused at once
 
 -- the host's space
 abbrev pub host_space : Space
 host_space = record { 0 = 0 }
-
--- the address of a page that the host's last-level tables have a word for
-abbrev pub can_be_mapped : ℕ → Va → Bool
-can_be_mapped tables va = va.0 % 4096 == 0 && nat_lt va.0 (4096 * 512 * tables)
 
 -- a removal of the address is under way: a fence is of its page in the host's space, or of that whole space
 abbrev pub is_being_removed : List (Option Fence) → Va → Bool

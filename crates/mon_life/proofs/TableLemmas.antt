@@ -14,14 +14,14 @@ use Rattle.mon_image.specs.declared.image.Image.{Image}
 use Rattle.mon_image.specs.declared.page.ImagePage.{ImagePage}
 use Rattle.mon_tables.specs.declared.number_tables.Leaf.{Leaf}
 use Rattle.mon_tables.specs.Space.{first_vpn}
-use Rattle.mon_tables.specs.SpaceWalks.{IsMappable, NumberTablesWalk, leaf_mappings, word_address}
+use Rattle.mon_tables.specs.SpaceWalks.{IsMappable, NumberTables, NumberTablesWalk, leaf_mappings, word_address}
 use Rattle.mon_tables.specs.Tables.{leaf_of, leaf_words, number_table_bytes, pointing_words, table_number, table_words}
 use Rattle.mon_tables.specs.Words.{dirty_bit}
 use Rattle.mon_enclave.specs.declared.enclave.PageKind.{PageKind}
 use Rattle.mon_enclave.specs.declared.enclave.PageKind.TheVariants.{Own, Shared}
 use Rattle.mon_enclave.specs.Records.{page_number_of}
 use Rattle.mon_life.specs.Pages.{PagePut, leaf_for, leaves_of, page_put_at}
-use Rattle.mon_life.specs.Laws.{StepsAreWhole, StepsStand, TablesWalk, word_in}
+use Rattle.mon_life.specs.Laws.{IsMaking, StepsAreWhole, StepsStand, TablesWalk, word_in}
 use Rattle.mon_life.proofs.LeafLemmas.{four_perms, leaf_perms, pair_leaf}
 use Rattle.mon_life.proofs.StepLemmas.{image_stands, tables_stand}
 use Rattle.mon_life.proofs.WordsInBytes.{FitsWord, length-words, word_of_words}
@@ -155,19 +155,37 @@ table_stands tables e image kinds bytes_of level small stand =
     ap (λ (put : PagePut). put.bytes) put_is ∙ ap (λ l. number_table_bytes tables e l leaves) level_is in
     ap bytes_of (sym page_is) ∙ stands ∙ bytes_are
 
+module _ (tables numbers e all_pages : ℕ) (image : Image) (kinds : List PageKind) (making : IsMaking tables numbers e all_pages image kinds) where
+  abbrev leaves : List Leaf
+  leaves = leaves_of kinds image.pages
+
+  number : e < 64
+  number = omega (arith, making.number, making.few_numbers)
+
+  pub few_leaves : length leaves ≤ 256
+  few_leaves = omega (arith, leaves_count kinds image.pages making.count, making.few)
+
+  fit : All IsFit leaves
+  fit =
+      let Below : PageKind → Type 0 = λ (kind : PageKind). page_number_of kind < all_pages in
+      let Small : PageKind → Type 0 = λ (kind : PageKind). page_number_of kind < 4096 in
+      let most = making.few_pages in
+      leaves_fit kinds image.pages making.perms (All-weaker Below Small (λ kind below. omega arith) kinds making.below)
+
+  pub leaves_mappable : All IsMappable (leaf_mappings first_vpn leaves)
+  leaves_mappable = mappings_fit leaves first_vpn fit
+
+  -- where the last three steps stand, the pages have the words of the number's tables
+  pub put_tables : (bytes_of : ℕ → List ℕ) → StepsStand tables e image kinds bytes_of (length image.pages) (length image.pages + 3) → NumberTables tables e (word_in bytes_of) leaves
+  put_tables bytes_of stand level k small within =
+      let bytes = table_stands tables e image kinds bytes_of level small stand in
+      let long = table_words-long tables e level leaves few_leaves in
+      word_at_page bytes_of (table_number tables e level) k within
+      ∙ ap (λ b. little_number 8 (bytes_at b (8 * k) 8)) bytes
+      ∙ word_of_words (table_words tables e level leaves) k (omega arith) (table_words-fit tables e level leaves making.few_tables number fit)
+
 pub tables_walk : NumberTablesWalk → TablesWalk
 tables_walk walk tables numbers e all_pages image kinds bytes_of making stand =
-    let leaves : List Leaf = leaves_of kinds image.pages in
-    let number : e < 64 = omega (arith, making.number, making.few_numbers) in
-    let few : length leaves ≤ 256 = omega (arith, leaves_count kinds image.pages making.count, making.few) in
-    let Below : PageKind → Type 0 = λ (kind : PageKind). page_number_of kind < all_pages in
-    let Small : PageKind → Type 0 = λ (kind : PageKind). page_number_of kind < 4096 in
-    let most = making.few_pages in
-    let fit : All IsFit leaves = leaves_fit kinds image.pages making.perms (All-weaker Below Small (λ kind below. omega arith) kinds making.below) in
-    let words = λ (level k : ℕ) (small : level < 3) (within : k < 512).
-    let bytes = table_stands tables e image kinds bytes_of level small stand in
-    let long = table_words-long tables e level leaves few in
-    word_at_page bytes_of (table_number tables e level) k within
-    ∙ ap (λ b. little_number 8 (bytes_at b (8 * k) 8)) bytes
-    ∙ word_of_words (table_words tables e level leaves) k (omega arith) (table_words-fit tables e level leaves making.few_tables number fit) in
-    walk tables e (word_in bytes_of) leaves making.few_tables number few (mappings_fit leaves first_vpn fit) words
+    walk tables e (word_in bytes_of) (leaves_of kinds image.pages) making.few_tables (omega (arith, making.number, making.few_numbers))
+    (few_leaves tables numbers e all_pages image kinds making) (leaves_mappable tables numbers e all_pages image kinds making)
+    (put_tables tables numbers e all_pages image kinds making bytes_of stand)

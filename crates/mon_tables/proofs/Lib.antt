@@ -1,7 +1,7 @@
-mod HostWalks
+pub mod HostWalks
 mod LeafWords
 pub mod Mappings
-mod NumberWalks
+pub mod NumberWalks
 mod Reaching
-mod StartWords
+pub mod StartWords
 pub mod WordBits

@@ -1,14 +1,19 @@
 -- Where the tables stand, and the words in them (a layout of our own).
-use Rattle.std.specs.Prelude.{ℕ, ◌+◌, ◌-◌, ◌*◌, ◌/◌, ◌%◌, ◌==◌, nat_lt, if◌then◌else◌, List, ◌∷◌, ◌++◌, length, map, replicate, Option, Some, None}
+use Rattle.std.specs.Prelude.{ℕ, ◌+◌, ◌-◌, ◌*◌, ◌/◌, ◌%◌, ◌==◌, ◌&&◌, nat_lt, Bool, if◌then◌else◌, List, ◌∷◌, ◌++◌, length, map, replicate, Option, Some, None}
 use Rattle.std.specs.List.{flat_map, range_with_len}
 use Rattle.byteorder.specs.Endian.{little_bytes}
 use Rattle.pl_base.specs.declared.access.Mode.TheVariants.{User}
 use Rattle.pl_base.specs.declared.address.Ppn.{Ppn}
+use Rattle.pl_base.specs.declared.address.Va.{Va}
 use Rattle.mon_tables.specs.declared.number_tables.Leaf.{Leaf}
 use Rattle.mon_tables.specs.Space.{first_vpn}
 use Rattle.mon_tables.specs.Words.{leaf_word, pointer_word, ppn_of_page}
 
 -- ---- the host's tables: its root in page 0, its middle table in page 1, and so many last-level tables from page 2 on
+
+-- the address of a page that the host's last-level tables have a word for
+abbrev pub can_be_mapped : ℕ → Va → Bool
+can_be_mapped tables va = va.0 % 4096 == 0 && nat_lt va.0 (4096 * 512 * tables)
 
 -- page and offset of the word of a virtual page number, where the last-level tables have one
 abbrev pub host_slot : ℕ → ℕ → Option (ℕ × ℕ)

@@ -14,6 +14,7 @@ use Rattle.pl_base.specs.declared.perms.Perms.{Perms}
 use Rattle.pl_base.specs.declared.refusal.No.{No}
 use Rattle.pl_base.specs.declared.refusal.No.TheVariants as refused
 use Rattle.mon_tables.specs.Space.{Mapping, mapping_at, without_vpn}
+use Rattle.mon_tables.specs.Tables.{can_be_mapped}
 use Rattle.pl_history.specs.declared.answer.Answer.{Answer}
 use Rattle.pl_history.specs.declared.answer.Answer.TheVariants as answer_is
 use Rattle.pl_history.specs.declared.answer.Entry.{Entry}
@@ -24,7 +25,7 @@ use Rattle.pl_history.specs.Answering.{change_by}
 use Rattle.pl_history.specs.Attacking.{Placed, written}
 use Rattle.pl_history.specs.HostAccess.{mapping_used, store_to}
 use Rattle.pl_history.specs.HostMappings.{LegalMappings, MappingsStand}
-use Rattle.pl_history.specs.HostMaps.{can_be_mapped, map_refusal, removing_of}
+use Rattle.pl_history.specs.HostMaps.{map_refusal, removing_of}
 use Rattle.pl_history.specs.Legal.{AllAllowed, AllowedAnswer, changes, state_after}
 use Rattle.pl_history.specs.Monitor.{Monitor, Removal, is_host, opening, removed_at}
 use Rattle.pl_history.proofs.HistoryLemmas.{holds_after, unchanged_holds}
@@ -40,21 +41,21 @@ unmapped None is = refl
 unmapped (Some r) is = cc
 
 -- an address that can be mapped has its word
-vpn_inside : (setup : SetupParts) (va : Va) → can_be_mapped setup va ≡ true → (vpn_of va).0 < 512 * setup.tables
+vpn_inside : (setup : SetupParts) (va : Va) → can_be_mapped setup.tables va ≡ true → (vpn_of va).0 < 512 * setup.tables
 vpn_inside setup va can =
     let below : va.0 < 4096 * 512 * setup.tables = ltb-true va.0 (4096 * 512 * setup.tables) (and_parts (va.0 % 4096 == 0) (nat_lt va.0 (4096 * 512 * setup.tables)) can).1 in
     omega arith
 
-counts_one : (b : Bool) → b ≡ true → cond {A = ℕ} b 1 0 ≡ 1
+pub counts_one : (b : Bool) → b ≡ true → cond {A = ℕ} b 1 0 ≡ 1
 counts_one true is = refl
 counts_one false is = absurd (false≢true is)
 
-counts_none : (b : Bool) → b ≡ false → cond {A = ℕ} b 1 0 ≡ 0
+pub counts_none : (b : Bool) → b ≡ false → cond {A = ℕ} b 1 0 ≡ 0
 counts_none true is = cc
 counts_none false is = refl
 
 -- one more element, at the end, is counted
-pushed : {A : Type 0} (test : A → Bool) (xs : List A) (x : A) → count_by test (xs ++ x ∷ []) ≡ count_by test xs + cond (test x) 1 0
+pub pushed : {A : Type 0} (test : A → Bool) (xs : List A) (x : A) → count_by test (xs ++ x ∷ []) ≡ count_by test xs + cond (test x) 1 0
 pushed test xs x =
     let one : count_by test (x ∷ []) ≡ cond (test x) 1 0 + count_by test [] = sum_by-cons (λ y. cond (test y) 1 0) x [] in
     let all : count_by test (xs ++ x ∷ []) ≡ count_by test xs + count_by test (x ∷ []) = sum_by-append (λ y. cond (test y) 1 0) xs (x ∷ []) in
@@ -145,14 +146,14 @@ map_allowed setup s va page perms k is =
     let fourth : Option No = refuse (not (is_host (s.owner page))) (refused.NotYours page) in
     let third : Option No = refuse (is_some (mapping_at s.space (vpn_of va).0)) refused.Mapped in
     let second : Option No = refuse (is_some (removed_at s.removals (vpn_of va).0)) refused.Busy in
-    let one = first_none (refuse (not (can_be_mapped setup va)) refused.BadAddress) (second ∷ third ∷ fourth ∷ []) is in
+    let one = first_none (refuse (not (can_be_mapped setup.tables va)) refused.BadAddress) (second ∷ third ∷ fourth ∷ []) is in
     let two = first_none second (third ∷ fourth ∷ []) one.1 in
     let three = first_none third (fourth ∷ []) two.1 in
     let free : count_by (λ (m : Mapping). m.vpn == (vpn_of va).0) s.space ≡ 0
     = unfound_counted (λ (m : Mapping). m.vpn == (vpn_of va).0) s.space (not_some (mapping_at s.space (vpn_of va).0) refused.Mapped three.0) in
     let closed : count_by (λ (r : Removal). r.mapping.vpn == (vpn_of va).0) s.removals ≡ 0
     = unfound_counted (λ (r : Removal). r.mapping.vpn == (vpn_of va).0) s.removals (unmapped (find (λ (r : Removal). r.mapping.vpn == (vpn_of va).0) s.removals) (not_some (removed_at s.removals (vpn_of va).0) refused.Busy two.0)) in
-    map_stands setup.tables s.space s.removals k (record { vpn = (vpn_of va).0; page = page; perms = perms }) (vpn_inside setup va (refuse_none (can_be_mapped setup va) refused.BadAddress one.0)) free closed
+    map_stands setup.tables s.space s.removals k (record { vpn = (vpn_of va).0; page = page; perms = perms }) (vpn_inside setup va (refuse_none (can_be_mapped setup.tables va) refused.BadAddress one.0)) free closed
 
 removing_allowed : (setup : SetupParts) (s : Monitor) (hart vpn : ℕ) (m : Option Mapping) → Stand setup s → mapping_at s.space vpn ≡ m → Stand setup (removing_of s hart m)
 removing_allowed setup s hart vpn None k is = k

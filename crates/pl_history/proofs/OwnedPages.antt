@@ -13,6 +13,7 @@ use Rattle.pl_base.specs.declared.refusal.No.{No}
 use Rattle.pl_base.specs.declared.refusal.No.TheVariants as refused
 use Rattle.rv_pmp.specs.Pmp.{page_allowed}
 use Rattle.mon_tables.specs.Space.{Mapping, count_of_page, mapping_at}
+use Rattle.mon_tables.specs.Tables.{can_be_mapped}
 use Rattle.pl_history.specs.declared.answer.Answer.{Answer}
 use Rattle.pl_history.specs.declared.answer.Answer.TheVariants as answer_is
 use Rattle.pl_history.specs.declared.answer.Entry.{Entry}
@@ -22,7 +23,7 @@ use Rattle.pl_history.specs.declared.setup.SetupParts.{SetupParts}
 use Rattle.pl_history.specs.Answering.{change_by, progressed, unchanged}
 use Rattle.pl_history.specs.Attacking.{Placed, written}
 use Rattle.pl_history.specs.HostAccess.{mapping_used, store_to}
-use Rattle.pl_history.specs.HostMaps.{can_be_mapped, map_refusal, removing_of}
+use Rattle.pl_history.specs.HostMaps.{map_refusal, removing_of}
 use Rattle.pl_history.specs.Legal.{AllAllowed, AllowedAnswer, changes, state_after}
 use Rattle.pl_history.specs.Making.{create_refusal, first_barred, first_mapped, first_not_host, fork_refusal, grant_refusal, image_page_count, page_refusals}
 use Rattle.pl_history.specs.Monitor.{Monitor, Number, Owner, Progress, Removal, freed, host, is_host, maps_of, number, opening, pages_taken, removed_at, with_number, with_owner, with_progress}
@@ -238,7 +239,7 @@ module _ (setup : SetupParts) where
         let fourth : Option No = refuse (not (is_host (s.owner page))) (refused.NotYours page) in
         let third : Option No = refuse (is_some (mapping_at s.space (vpn_of va).0)) refused.Mapped in
         let second : Option No = refuse (is_some (removed_at s.removals (vpn_of va).0)) refused.Busy in
-        let one = first_none (refuse (not (can_be_mapped setup va)) refused.BadAddress) (second ∷ third ∷ fourth ∷ []) is in
+        let one = first_none (refuse (not (can_be_mapped setup.tables va)) refused.BadAddress) (second ∷ third ∷ fourth ∷ []) is in
         let two = first_none second (third ∷ fourth ∷ []) one.1 in
         let three = first_none third (fourth ∷ []) two.1 in
         let four = first_none fourth [] three.1 in

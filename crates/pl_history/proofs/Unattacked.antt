@@ -25,6 +25,7 @@ use Rattle.rv_sv39.specs.Canonical.{is_canonical}
 use Rattle.mem_geom.specs.Layout.{page_start}
 use Rattle.mem_geom.specs.Ranges.{overlaps_place}
 use Rattle.mon_tables.specs.Space.{Mapping, mapping_at}
+use Rattle.mon_tables.specs.Tables.{can_be_mapped}
 use Rattle.pl_history.specs.declared.answer.Answer.{Answer}
 use Rattle.pl_history.specs.declared.answer.Answer.TheVariants as answer_is
 use Rattle.pl_history.specs.declared.answer.Entry.{Entry}
@@ -37,7 +38,7 @@ use Rattle.pl_history.specs.Answering.{AtOnce, Begins, Changes, EndsDone, EndsDo
 use Rattle.pl_history.specs.GivingBack.{drop_refusal, first_child}
 use Rattle.pl_history.specs.History.{named_part}
 use Rattle.pl_history.specs.HostAccess.{AnswersBy, HostAccess, address_refusal, answer_or, host_word, load_by, mapping_refusal, store_by}
-use Rattle.pl_history.specs.HostMaps.{can_be_mapped, early_refusals, map_refusal, unmap_refusal}
+use Rattle.pl_history.specs.HostMaps.{early_refusals, map_refusal, unmap_refusal}
 use Rattle.pl_history.specs.Laws.{UnattackedIsFaultless}
 use Rattle.pl_history.specs.Legal.{ActorLine, of_hart, of_attacker, line_at, AllAllowed, AllowedAnswer, AllowedAttack, AllowedLine, after, after_line, attack_changes, changes, state_after}
 use Rattle.pl_history.specs.Licence.{Licensed}
@@ -72,7 +73,7 @@ entry_leaves setup bytes s entry (Some line) unchanged = line_leaves s entry.act
 
 -- ---- no cause to refuse a line is a fault
 
-abbrev NoFault : Option No → Type 0
+abbrev pub NoFault : Option No → Type 0
 NoFault None = Unit {0}
 NoFault (Some cause) = refuses_by_fault cause ≡ false
 
@@ -140,13 +141,13 @@ drop_faultless setup s e =
     first_faultless (refuse (not (is_sealed (s.number e).state)) refused.NoEnclave) _ (refuse_faultless _ refused.NoEnclave refl)
     (first_faultless (option_map (λ child. refused.InUse (record { 0 = child })) (first_child setup s e)) [] (map_faultless (λ child. refused.InUse (record { 0 = child })) (first_child setup s e) (λ child. refl)) tt)
 
-address_faultless : (va : Va) → NoFault (address_refusal va)
+pub address_faultless : (va : Va) → NoFault (address_refusal va)
 address_faultless va =
     let second : Option No = refuse (not (is_canonical va.0)) refused.PageFault in
     first_faultless (refuse (not (va.0 % 8 == 0)) refused.Misaligned) (second ∷ []) (refuse_faultless (not (va.0 % 8 == 0)) refused.Misaligned refl)
     (first_faultless second [] (refuse_faultless (not (is_canonical va.0)) refused.PageFault refl) tt)
 
-mapping_faultless : (setup : SetupParts) (kind : Kind) (va : Va) (m : Mapping) → NoFault (mapping_refusal setup kind va m)
+pub mapping_faultless : (setup : SetupParts) (kind : Kind) (va : Va) (m : Mapping) → NoFault (mapping_refusal setup kind va m)
 mapping_faultless setup kind va m =
     let allowed : Bool = permits (pmp_of setup) (page_start m.page + va.0 % 4096) 8 kind in
     let second : Option No = refuse (not allowed) refused.AccessFault in
@@ -156,10 +157,10 @@ mapping_faultless setup kind va m =
 early_faultless : (setup : SetupParts) (s : Monitor) (va : Va) (later : List (Option No)) → NoFault (first_refusal later) → NoFault (first_refusal (early_refusals setup s va ++ later))
 early_faultless setup s va later rest =
     let second : Option No = refuse (is_some (removed_at s.removals (vpn_of va).0)) refused.Busy in
-    first_faultless (refuse (not (can_be_mapped setup va)) refused.BadAddress) (second ∷ later) (refuse_faultless (not (can_be_mapped setup va)) refused.BadAddress refl)
+    first_faultless (refuse (not (can_be_mapped setup.tables va)) refused.BadAddress) (second ∷ later) (refuse_faultless (not (can_be_mapped setup.tables va)) refused.BadAddress refl)
     (first_faultless second later (refuse_faultless (is_some (removed_at s.removals (vpn_of va).0)) refused.Busy refl) rest)
 
-map_is_faultless : (setup : SetupParts) (s : Monitor) (va : Va) (page : ℕ) → NoFault (map_refusal setup s va page)
+pub map_is_faultless : (setup : SetupParts) (s : Monitor) (va : Va) (page : ℕ) → NoFault (map_refusal setup s va page)
 map_is_faultless setup s va page =
     let first : Option No = refuse (is_some (mapping_at s.space (vpn_of va).0)) refused.Mapped in
     let second : Option No = refuse (not (is_host (s.owner page))) (refused.NotYours page) in
@@ -167,14 +168,14 @@ map_is_faultless setup s va page =
     (first_faultless first (second ∷ []) (refuse_faultless (is_some (mapping_at s.space (vpn_of va).0)) refused.Mapped refl)
     (first_faultless second [] (refuse_faultless (not (is_host (s.owner page))) (refused.NotYours page) refl) tt))
 
-unmap_is_faultless : (setup : SetupParts) (s : Monitor) (va : Va) → NoFault (unmap_refusal setup s va)
+pub unmap_is_faultless : (setup : SetupParts) (s : Monitor) (va : Va) → NoFault (unmap_refusal setup s va)
 unmap_is_faultless setup s va =
     let last : Option No = refuse (not (is_some (mapping_at s.space (vpn_of va).0))) refused.NotMapped in
     early_faultless setup s va (last ∷ []) (first_faultless last [] (refuse_faultless (not (is_some (mapping_at s.space (vpn_of va).0))) refused.NotMapped refl) tt)
 
 -- ---- the forms of answers
 
-by_cause : (o : Option No) (cause : No) → NoFault o → o ≡ Some cause → refuses_by_fault cause ≡ false
+pub by_cause : (o : Option No) (cause : No) → NoFault o → o ≡ Some cause → refuses_by_fault cause ≡ false
 by_cause None cause is same = cc
 by_cause (Some other) cause is same = subst NoFault same is
 

@@ -1,5 +1,5 @@
 -- The host's mappings: `map` and `unmap`.
-use Rattle.std.specs.Prelude.{ℕ, ◌*◌, ◌%◌, ◌==◌, ◌&&◌, nat_lt, Bool, not, List, [], ◌∷◌, ◌++◌, filter, Option, Some, None, is_some}
+use Rattle.std.specs.Prelude.{ℕ, ◌==◌, Bool, not, List, [], ◌∷◌, ◌++◌, filter, Option, Some, None, is_some}
 use Rattle.pl_base.specs.Address.{vpn_of}
 use Rattle.pl_base.specs.Refusals.{refuse, first_refusal}
 use Rattle.pl_base.specs.declared.address.Va.{Va}
@@ -14,16 +14,13 @@ use Rattle.pl_history.specs.Answering.{AtOnce, Begins, FaultsOr, EndsDone}
 use Rattle.pl_history.specs.Licence.{Licensed}
 use Rattle.pl_history.specs.Monitor.{Removal, Monitor, is_host, removed_at}
 use Rattle.mon_tables.specs.Space.{Mapping, mapping_at, without_vpn}
+use Rattle.mon_tables.specs.Tables.{can_be_mapped}
 
 -- ---- the answers
 
--- the address of a page that the host's last-level tables have a word for
-abbrev pub can_be_mapped : SetupParts → Va → Bool
-can_be_mapped setup va = va.0 % 4096 == 0 && nat_lt va.0 (4096 * 512 * setup.tables)
-
 -- why a mapping isn't looked for: no page can be mapped at the address, or a removal of it is under way
 abbrev pub early_refusals : SetupParts → Monitor → Va → List (Option No)
-early_refusals setup s va = refuse (not (can_be_mapped setup va)) BadAddress ∷ refuse (is_some (removed_at s.removals (vpn_of va).0)) Busy ∷ []
+early_refusals setup s va = refuse (not (can_be_mapped setup.tables va)) BadAddress ∷ refuse (is_some (removed_at s.removals (vpn_of va).0)) Busy ∷ []
 
 -- and then: the address is mapped, or the page isn't the host's
 abbrev pub map_refusal : SetupParts → Monitor → Va → ℕ → Option No
