@@ -18,6 +18,7 @@ use Rattle.world_machine.specs.Steps.{Ran, StepOf}
 use Rattle.world_machine.specs.Worlds.{CollisionData, WorldData}
 use Rattle.world_machine.proofs.Endings.{ends_by}
 use Rattle.world_machine.proofs.Kept.{reached_kept}
+use Rattle.world_machine.proofs.RemovedMappings.{removed_stay_unused}
 use Rattle.world_machine.proofs.Stepping.{Ran-reached, Ran-setup, Ran-snoc}
 use Rattle.world_machine.proofs.Undisturbed.{undisturbed}
 use Rattle.penglai_main.specs.declared.status.Status.{Status}
@@ -51,6 +52,7 @@ module _ (digest_of : List ℕ → List ℕ) (law : (m : List ℕ) → length (d
         kept = reached_kept digest_of law w now;
         plays = subst (λ v. Plays digest_of gives v w end) opening plays;
         ends = ends_by digest_of w (reached_kept digest_of law w now) end plays.over;
+        unused = removed_stay_unused w.setup w.history.bytes w.history.entries (reached_kept digest_of law w now).legal;
         undisturbed = λ still.
             let kept = reached_kept digest_of law w now in
             let is = undisturbed digest_of w kept still in

@@ -8,6 +8,7 @@ use Rattle.world_core.specs.Report.{world_report}
 use Rattle.world_machine.specs.declared.turned.Finished.{Finished}
 use Rattle.world_machine.specs.declared.turned.Finished.TheVariants as finished
 use Rattle.world_machine.specs.Endings.{EndsBy}
+use Rattle.world_machine.specs.HostAccesses.{RemovedStayUnused}
 use Rattle.world_machine.specs.Reached.{Reached, opening_world}
 use Rattle.world_machine.specs.Runs.{Plays}
 use Rattle.world_machine.specs.Standing.{Kept}
@@ -24,17 +25,19 @@ Gives = List SlotUse → ℕ → Type 0
 abbrev pub run_text : WorldData → Finished → List ℕ
 run_text w end = text_of w.setup.harts w.history ++ world_report w end
 
--- The world that a run of a setup ends with. It is reached from the one that the run begins with by the turns of the setup's order and then
--- of whole rounds, and the evicted slots are those that the choice names. So its history is legal, and the world stands to the abstract
--- monitor's state that this history gives: each number is its image run alone on flat memory with the words sent to it, each fault that was
--- answered names a place that the attacker changed before. And it is over in this way. Where the attacker changed no byte, every line is
--- answered without a fault, or the run is stuck.
+-- The world that a run of a setup ends with, and the headline of what is proved: for every order of turns of harts, acknowledgements and attacker,
+-- the history that is printed is one of the abstract monitor (`kept`), where each enclave is its image run alone on flat memory with the words sent
+-- to it, no access of the host uses a mapping whose removal was answered (`unused`), and each integrity fault names a place that the attacker
+-- changed before. Only a collision that is kept, or being stuck, breaks a run off (`ends`). The world is reached (`reached`) by the turns of the
+-- setup's order and then of whole rounds, and the evicted slots are those that the choice names (`plays`). Where the attacker changed no byte, no
+-- answer is a fault: every line is answered, or the run is stuck (`undisturbed`).
 pub record IsRunOf (digest_of : List ℕ → List ℕ) (gives : Gives) (setup : SetupParts) (end : Finished) (w : WorldData) : Type 0 where
   pub setup_is : w.setup ≡ setup
   pub reached : Reached digest_of w
   pub kept : Kept digest_of w
   pub plays : Plays digest_of gives (opening_world digest_of setup) w end
   pub ends : EndsBy digest_of end w
+  pub unused : RemovedStayUnused w.setup w.history.bytes w.history.entries
   pub undisturbed : IsUnattacked w.history.entries → IsFaultless w.history.entries × (end ≢ finished.Collision)
 
 -- the world that a run ended with, and the whole of its output

@@ -1,4 +1,3 @@
-pub mod AccessLemmas
 pub mod ConditionLemmas
 pub mod EventLemmas
 pub mod OpeningLemmas
@@ -6,5 +5,6 @@ pub mod OverLemmas
 pub mod RecordLemmas
 pub mod ReportLemmas
 pub mod RoundLemmas
+pub mod TranslationConditions
 pub mod TurnLemmas
 pub mod UnbuiltLemmas

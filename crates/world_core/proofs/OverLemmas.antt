@@ -1,24 +1,26 @@
 -- Which actors have no event: by lines without pages and bytes, and over all of them.
-use Rattle.std.proofs.Common.{◌≡◌, ℕ, zero, suc, ◌+◌, ◌-◌, ◌<◌, ltb, leb, Bool, true, false, ◌&&◌, if◌then◌else◌, List, [], ◌∷◌, ◌++◌, refl, sym, ap, ◌∙◌, arith}
+use Rattle.std.proofs.Common.{◌≡◌, ℕ, zero, suc, ◌+◌, ◌-◌, ◌<◌, ltb, leb, Bool, true, false, ◌&&◌, if◌then◌else◌, List, [], ◌∷◌, ◌++◌, Option, Some, None, refl, sym, ap, ◌∙◌, arith}
 use Rattle.std.specs.List.{list_all, range_with_len}
 use Rattle.std.proofs.lemmas.Bool.Decides.{nat_tests}
 use Rattle.std.proofs.lemmas.List.Folds.{list_all-append, list_all-map}
 use Rattle.pl_base.specs.declared.actor.Actor.{Actor}
 use Rattle.pl_base.specs.declared.actor.Actor.TheVariants as actor_is
-use Rattle.world_core.specs.declared.steps.Attack.{Attack}
-use Rattle.world_core.specs.declared.steps.Attack.TheVariants as attack_is
-use Rattle.world_core.specs.declared.steps.Due.{Due}
-use Rattle.world_core.specs.declared.steps.Due.TheVariants as due_is
+use Rattle.pl_base.specs.declared.number.HartSet.{HartSet}
+use Rattle.world_core.specs.declared.dues.Attack.{Attack}
+use Rattle.world_core.specs.declared.dues.Attack.TheVariants as attack_is
+use Rattle.world_core.specs.declared.dues.Due.{Due}
+use Rattle.world_core.specs.declared.dues.Due.TheVariants as due_is
 use Rattle.world_core.specs.Conditions.{pages_named}
-use Rattle.world_core.specs.Over.{attack_still, attacker_still, due_still, hart_still}
+use Rattle.world_core.specs.Over.{ack_still, attack_still, attacker_still, due_still, hart_still}
 use Rattle.world_core.specs.Turns.{attack_of, attack_turn, due_of, due_turn}
 use Rattle.world_core.proofs.TurnLemmas.{attack_turn-line, due_turn-hart}
 use Rattle.world_machine.specs.declared.turned.Turned.TheVariants as turned
 use Rattle.world_machine.specs.declared.turned.Wait.TheVariants as wait
 use Rattle.world_machine.specs.declared.under.Under.{Under}
-use Rattle.world_machine.specs.declared.under.Under.TheVariants.{Idle, Putting, Running}
+use Rattle.world_machine.specs.declared.under.Under.TheVariants.{Idle, Seeking, Removing, Putting, Running}
+use Rattle.world_machine.specs.HostMapping.{lacked_by}
 use Rattle.world_machine.specs.Runs.{acknowledgements, hart_turns, is_still, nobody_moves}
-use Rattle.world_machine.specs.Steps.{Turn, actor_turn, moves, rests, turned_by, waits}
+use Rattle.world_machine.specs.Steps.{Turn, actor_turn, moves, rests, turned_by, unmap_turn, waits}
 use Rattle.world_machine.specs.Worlds.{Event, WorldData, answered_at, attacker_line, hart_line, under_at}
 
 -- an `after` has no event where too few lines are answered
@@ -30,24 +32,67 @@ waiting_still w actor count done = by (leb count (answered_at w.answered actor))
     by true is = grind (arith, nat_tests)
     by false is = grind (arith, nat_tests)
 
+joined : (a b c : Bool) → (a && (b && (c && true))) ≡ ((a && b) && c)
+joined true true true = refl
+joined true true false = refl
+joined true false c = refl
+joined false b c = refl
+
 module _ (d : List ℕ → List ℕ) (w : WorldData) where
+  -- a removal under way ends, or waits for an acknowledgement
+  removal_moves : (hart page : ℕ) (lacked : Option HartSet) → is_still (turned_by (unmap_turn w hart page lacked)) ≡ false
+  removal_moves hart page None = refl
+  removal_moves hart page (Some harts) = refl
+
   due_stills : (hart : ℕ) (pages : List ℕ) (due : Due) (under : Under) → is_still (turned_by (due_turn d w hart [] pages due under)) ≡ due_still w due under
+  due_stills hart pages (due_is.Load va) Idle = refl
+  due_stills hart pages (due_is.Load va) (Seeking walk) = refl
+  due_stills hart pages (due_is.Load va) (Removing page) = refl
+  due_stills hart pages (due_is.Load va) (Putting done) = refl
+  due_stills hart pages (due_is.Load va) (Running micro count) = refl
+  due_stills hart pages (due_is.Store va word) Idle = refl
+  due_stills hart pages (due_is.Store va word) (Seeking walk) = refl
+  due_stills hart pages (due_is.Store va word) (Removing page) = refl
+  due_stills hart pages (due_is.Store va word) (Putting done) = refl
+  due_stills hart pages (due_is.Store va word) (Running micro count) = refl
+  due_stills hart pages (due_is.Map va page perms) Idle = refl
+  due_stills hart pages (due_is.Map va page perms) (Seeking walk) = refl
+  due_stills hart pages (due_is.Map va page perms) (Removing now) = refl
+  due_stills hart pages (due_is.Map va page perms) (Putting done) = refl
+  due_stills hart pages (due_is.Map va page perms) (Running micro count) = refl
+  due_stills hart pages (due_is.Unmap va) Idle = refl
+  due_stills hart pages (due_is.Unmap va) (Seeking walk) = refl
+  due_stills hart pages (due_is.Unmap va) (Removing page) = removal_moves hart page (lacked_by w hart)
+  due_stills hart pages (due_is.Unmap va) (Putting done) = refl
+  due_stills hart pages (due_is.Unmap va) (Running micro count) = refl
   due_stills hart pages (due_is.Create e image) Idle = refl
+  due_stills hart pages (due_is.Create e image) (Seeking walk) = refl
+  due_stills hart pages (due_is.Create e image) (Removing page) = refl
   due_stills hart pages (due_is.Create e image) (Putting done) = refl
   due_stills hart pages (due_is.Create e image) (Running micro count) = refl
   due_stills hart pages (due_is.Run e budget first) Idle = refl
+  due_stills hart pages (due_is.Run e budget first) (Seeking walk) = refl
+  due_stills hart pages (due_is.Run e budget first) (Removing page) = refl
   due_stills hart pages (due_is.Run e budget first) (Putting done) = refl
   due_stills hart pages (due_is.Run e budget first) (Running micro count) = refl
   due_stills hart pages (due_is.Send e word) Idle = refl
+  due_stills hart pages (due_is.Send e word) (Seeking walk) = refl
+  due_stills hart pages (due_is.Send e word) (Removing page) = refl
   due_stills hart pages (due_is.Send e word) (Putting done) = refl
   due_stills hart pages (due_is.Send e word) (Running micro count) = refl
   due_stills hart pages (due_is.Take e) Idle = refl
+  due_stills hart pages (due_is.Take e) (Seeking walk) = refl
+  due_stills hart pages (due_is.Take e) (Removing page) = refl
   due_stills hart pages (due_is.Take e) (Putting done) = refl
   due_stills hart pages (due_is.Take e) (Running micro count) = refl
   due_stills hart pages (due_is.After actor lines) Idle = waiting_still w actor lines _
+  due_stills hart pages (due_is.After actor lines) (Seeking walk) = refl
+  due_stills hart pages (due_is.After actor lines) (Removing page) = refl
   due_stills hart pages (due_is.After actor lines) (Putting done) = refl
   due_stills hart pages (due_is.After actor lines) (Running micro count) = refl
   due_stills hart pages due_is.Nothing Idle = refl
+  due_stills hart pages due_is.Nothing (Seeking walk) = refl
+  due_stills hart pages due_is.Nothing (Removing page) = refl
   due_stills hart pages due_is.Nothing (Putting done) = refl
   due_stills hart pages due_is.Nothing (Running micro count) = refl
 
@@ -66,23 +111,19 @@ module _ (d : List ℕ → List ℕ) (w : WorldData) where
   attacker_stills now is =
       ap (attack_still w) is ∙ sym (attack_stills (attack_of (attacker_line w))) ∙ ap (λ (t : Turn). is_still (turned_by t)) (attack_turn-line d w (attacker_line w))
 
-  all_true : (xs : List ℕ) → list_all (λ (h : ℕ). true) xs ≡ true
-  all_true [] = refl
-  all_true (x ∷ xs) = all_true xs
-
-  -- no actor has an event where no hart has one, and the attacker has none
-  pub nobody : (harts still : Bool) → harts ≡ list_all (hart_still d w) (range_with_len 0 w.setup.harts) → still ≡ attacker_still d w → (harts && still) ≡ nobody_moves d w
-  nobody harts still of_harts of_attacker =
+  -- no actor has an event where no hart has one, no acknowledgement is owed, and the attacker has none
+  pub nobody : (harts acks still : Bool) → harts ≡ list_all (hart_still d w) (range_with_len 0 w.setup.harts) → acks ≡ list_all (ack_still d w) (range_with_len 0 w.setup.harts)
+      → still ≡ attacker_still d w → ((harts && acks) && still) ≡ nobody_moves d w
+  nobody harts acks still of_harts of_acks of_attacker =
       let test : Actor → Bool = λ actor. is_still (turned_by (actor_turn d w actor [])) in
       let harts_part : list_all test (hart_turns w.setup.harts) ≡ list_all (hart_still d w) (range_with_len 0 w.setup.harts) = list_all-map test (λ h. actor_is.Hart (record { 0 = h })) (range_with_len 0 w.setup.harts) in
-      let acks : list_all test (acknowledgements w.setup.harts) ≡ true = list_all-map test (λ h. actor_is.Ack (record { 0 = h })) (range_with_len 0 w.setup.harts) ∙ all_true (range_with_len 0 w.setup.harts) in
-      let last : (b : Bool) → b ≡ (true && (b && true)) = λ b. elim b as (λ x. x ≡ (true && (x && true))) [ true ↦ refl | false ↦ refl ] in
+      let acks_part : list_all test (acknowledgements w.setup.harts) ≡ list_all (ack_still d w) (range_with_len 0 w.setup.harts) = list_all-map test (λ h. actor_is.Ack (record { 0 = h })) (range_with_len 0 w.setup.harts) in
       sym (list_all-append test (hart_turns w.setup.harts) (acknowledgements w.setup.harts ++ actor_is.Attacker ∷ [])
       ∙ ap (λ b. list_all test (hart_turns w.setup.harts) && b) (list_all-append test (acknowledgements w.setup.harts) (actor_is.Attacker ∷ []))
-      ∙ ap (λ b. b && (list_all test (acknowledgements w.setup.harts) && (attacker_still d w && true))) harts_part
-      ∙ ap (λ b. list_all (hart_still d w) (range_with_len 0 w.setup.harts) && (b && (attacker_still d w && true))) acks
-      ∙ ap (λ b. list_all (hart_still d w) (range_with_len 0 w.setup.harts) && b) (sym (last (attacker_still d w)))
-      ∙ ap (λ b. b && attacker_still d w) (sym of_harts) ∙ ap (λ b. harts && b) (sym of_attacker))
+      ∙ ap (λ b. b && (list_all test (acknowledgements w.setup.harts) && (attacker_still d w && true))) (harts_part ∙ sym of_harts)
+      ∙ ap (λ b. harts && (b && (attacker_still d w && true))) (acks_part ∙ sym of_acks)
+      ∙ ap (λ b. harts && (acks && (b && true))) (sym of_attacker)
+      ∙ joined harts acks still)
 
 -- one more element of a range that is gone over from its start
 pub one_passed : (p : ℕ → Bool) (i n : ℕ) → i < n → list_all p (range_with_len i (n - i)) ≡ (p i && list_all p (range_with_len (i + 1) (n - (i + 1))))

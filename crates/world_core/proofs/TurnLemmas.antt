@@ -1,23 +1,29 @@
 -- Turns: that of a line without its pages is the line's, and what a turn that moves or rests leaves.
-use Rattle.std.proofs.Common.{◌≡◌, ◌≢◌, ℕ, List, [], Bool, true, false, Option, Some, None, is_some, refl, ap, ◌∙◌, sym, subst, if◌then◌else◌}
+use Rattle.std.proofs.Common.{◌≡◌, ◌≢◌, ℕ, List, [], Bool, true, false, Option, Some, None, is_some, option_map, refl, ap, ◌∙◌, sym, subst, if◌then◌else◌}
 use Rattle.std.specs.Prelude.{IsTrue, nat_le}
 use Rattle.pl_base.specs.declared.actor.Actor.{Actor}
 use Rattle.pl_base.specs.declared.actor.Actor.TheVariants as actor_is
+use Rattle.pl_base.specs.declared.number.HartNo.{HartNo}
+use Rattle.pl_base.specs.declared.number.HartSet.{HartSet}
+use Rattle.pl_base.specs.declared.number.Space.{Space}
 use Rattle.mem_slots.specs.declared.slot_use.SlotUse.{SlotUse}
+use Rattle.mon_fence.specs.Fences.{fence_of}
 use Rattle.pl_history.specs.declared.line.AttackLine.{AttackLine}
 use Rattle.pl_history.specs.declared.line.AttackLine.TheVariants as attack
 use Rattle.pl_history.specs.declared.line.Line.{Line}
 use Rattle.pl_history.specs.declared.line.Line.TheVariants as line_is
 use Rattle.pl_history.specs.Rules.{is_actor}
-use Rattle.world_core.specs.declared.steps.Due.{Due}
-use Rattle.world_core.specs.declared.steps.Due.TheVariants as due_is
+use Rattle.world_core.specs.declared.dues.Due.{Due}
+use Rattle.world_core.specs.declared.dues.Due.TheVariants as due_is
 use Rattle.world_core.specs.Conditions.{pages_named}
-use Rattle.world_core.specs.Turns.{IsTurn, attack_of, attack_turn, begun_turn, due_of, due_turn, left_by, say_turn}
+use Rattle.world_core.specs.Turns.{IsTurn, attack_of, attack_turn, begun_turn, due_of, due_turn, left_by, restarted_due, say_turn}
 use Rattle.world_machine.specs.declared.turned.Turned.{Turned}
 use Rattle.world_machine.specs.declared.turned.Turned.TheVariants as turned
 use Rattle.world_machine.specs.declared.turned.Wait.TheVariants as wait
 use Rattle.world_machine.specs.declared.under.Under.{Under}
-use Rattle.world_machine.specs.declared.under.Under.TheVariants.{Idle, Putting, Running}
+use Rattle.world_machine.specs.declared.under.Under.TheVariants.{Idle, Seeking, Removing, Putting, Running}
+use Rattle.world_machine.specs.Acknowledging.{acknowledged, owed, restarted}
+use Rattle.world_machine.specs.HostMapping.{lacked_by}
 use Rattle.world_machine.specs.Steps as step
 use Rattle.world_machine.specs.Steps.{StepOf, Turn, moves, rests, actor_turn, attacker_turn, counted, due, turn_of, turned_by}
 use Rattle.world_machine.specs.Worlds.{Event, WorldData, answered_at, attacker_line, hart_line, under_at}
@@ -26,30 +32,83 @@ use Rattle.world_machine.specs.Worlds.{Event, WorldData, answered_at, attacker_l
 
 module _ (d : List ℕ → List ℕ) (w : WorldData) (hart : ℕ) (positions : List ℕ) where
   due_turn-line : (line : Line) (under : Under) → due_turn d w hart positions (pages_named (Some line)) (due_of (Some line)) under ≡ due d w hart positions line under
+  due_turn-line (line_is.Load va) Idle = refl
+  due_turn-line (line_is.Load va) (Seeking walk) = refl
+  due_turn-line (line_is.Load va) (Removing page) = refl
+  due_turn-line (line_is.Load va) (Putting done) = refl
+  due_turn-line (line_is.Load va) (Running micro count) = refl
+  due_turn-line (line_is.Store va word) Idle = refl
+  due_turn-line (line_is.Store va word) (Seeking walk) = refl
+  due_turn-line (line_is.Store va word) (Removing page) = refl
+  due_turn-line (line_is.Store va word) (Putting done) = refl
+  due_turn-line (line_is.Store va word) (Running micro count) = refl
+  due_turn-line (line_is.Map va page perms) Idle = refl
+  due_turn-line (line_is.Map va page perms) (Seeking walk) = refl
+  due_turn-line (line_is.Map va page perms) (Removing now) = refl
+  due_turn-line (line_is.Map va page perms) (Putting done) = refl
+  due_turn-line (line_is.Map va page perms) (Running micro count) = refl
+  due_turn-line (line_is.Unmap va) Idle = refl
+  due_turn-line (line_is.Unmap va) (Seeking walk) = refl
+  due_turn-line (line_is.Unmap va) (Removing page) = refl
+  due_turn-line (line_is.Unmap va) (Putting done) = refl
+  due_turn-line (line_is.Unmap va) (Running micro count) = refl
   due_turn-line (line_is.Create e image pages) Idle = refl
+  due_turn-line (line_is.Create e image pages) (Seeking walk) = refl
+  due_turn-line (line_is.Create e image pages) (Removing page) = refl
   due_turn-line (line_is.Create e image pages) (Putting done) = refl
   due_turn-line (line_is.Create e image pages) (Running micro count) = refl
   due_turn-line (line_is.Run e budget) Idle = refl
+  due_turn-line (line_is.Run e budget) (Seeking walk) = refl
+  due_turn-line (line_is.Run e budget) (Removing page) = refl
   due_turn-line (line_is.Run e budget) (Putting done) = refl
   due_turn-line (line_is.Run e budget) (Running micro count) = refl
   due_turn-line (line_is.Resume e budget) Idle = refl
+  due_turn-line (line_is.Resume e budget) (Seeking walk) = refl
+  due_turn-line (line_is.Resume e budget) (Removing page) = refl
   due_turn-line (line_is.Resume e budget) (Putting done) = refl
   due_turn-line (line_is.Resume e budget) (Running micro count) = refl
   due_turn-line (line_is.Send e word) Idle = refl
   due_turn-line (line_is.Take e) Idle = refl
   due_turn-line (line_is.After actor count) Idle = refl
   due_turn-line line Idle = refl
+  due_turn-line line (Seeking walk) = refl
+  due_turn-line line (Removing page) = refl
   due_turn-line line (Putting done) = refl
   due_turn-line line (Running micro count) = refl
 
   nothing_due : (under : Under) → due_turn d w hart positions [] (due_of None) under ≡ rests turned.Done
   nothing_due Idle = refl
+  nothing_due (Seeking walk) = refl
+  nothing_due (Removing page) = refl
   nothing_due (Putting done) = refl
   nothing_due (Running micro count) = refl
 
   pub due_turn-hart : (line : Option Line) → due_turn d w hart positions (pages_named line) (due_of line) (under_at w.under hart) ≡ step.hart_turn d w hart positions line
   due_turn-hart None = nothing_due (under_at w.under hart)
   due_turn-hart (Some line) = due_turn-line line (under_at w.under hart)
+
+-- a fence is acknowledged
+pub restarted-line : (space : Space) (line : Option Line) (under : Under) → restarted_due space (due_of line) under ≡ restarted space line under
+restarted-line space (Some (line_is.Run e budget)) Idle = refl
+restarted-line space (Some (line_is.Run e budget)) (Seeking walk) = refl
+restarted-line space (Some (line_is.Run e budget)) (Removing page) = refl
+restarted-line space (Some (line_is.Run e budget)) (Putting done) = refl
+restarted-line space (Some (line_is.Run e budget)) (Running micro count) = refl
+restarted-line space (Some (line_is.Resume e budget)) Idle = refl
+restarted-line space (Some (line_is.Resume e budget)) (Seeking walk) = refl
+restarted-line space (Some (line_is.Resume e budget)) (Removing page) = refl
+restarted-line space (Some (line_is.Resume e budget)) (Putting done) = refl
+restarted-line space (Some (line_is.Resume e budget)) (Running micro count) = refl
+restarted-line space (Some line) Idle = refl
+restarted-line space (Some line) (Seeking walk) = refl
+restarted-line space (Some line) (Removing page) = refl
+restarted-line space (Some line) (Putting done) = refl
+restarted-line space (Some line) (Running micro count) = refl
+restarted-line space None Idle = refl
+restarted-line space None (Seeking walk) = refl
+restarted-line space None (Removing page) = refl
+restarted-line space None (Putting done) = refl
+restarted-line space None (Running micro count) = refl
 
 pub attack_turn-line : (d : List ℕ → List ℕ) (w : WorldData) (line : Option AttackLine) → attack_turn w (attack_of line) ≡ attacker_turn d w line
 attack_turn-line d w None = refl
@@ -58,12 +117,20 @@ attack_turn-line d w (Some line) = refl
 
 -- a line that is answered at once
 abbrev pub is_said : Due → Bool
+is_said (due_is.Load va) = false
+is_said (due_is.Store va word) = false
+is_said (due_is.Map va page perms) = false
+is_said (due_is.Unmap va) = false
 is_said (due_is.Create e image) = false
 is_said (due_is.Run e budget first) = false
 is_said due = true
 
 pub said_turn : (gives : List SlotUse → ℕ → Type 0) (d : List ℕ → List ℕ) (w new : WorldData) (hart : ℕ) (pages : List ℕ) (due : Due) (under : Under) (answered : Turned) → is_said due ≡ true
     → IsTurn gives (λ positions. begun_turn under (say_turn w hart due)) answered w new → IsTurn gives (λ positions. due_turn d w hart positions pages due under) answered w new
+said_turn gives d w new hart pages (due_is.Load va) under answered said turn = cc
+said_turn gives d w new hart pages (due_is.Store va word) under answered said turn = cc
+said_turn gives d w new hart pages (due_is.Map va page perms) under answered said turn = cc
+said_turn gives d w new hart pages (due_is.Unmap va) under answered said turn = cc
 said_turn gives d w new hart pages (due_is.Create e image) under answered said turn = cc
 said_turn gives d w new hart pages (due_is.Run e budget first) under answered said turn = cc
 said_turn gives d w new hart pages due under answered said turn = turn
@@ -88,21 +155,50 @@ waits-sound w actor count event = by (nat_le count (answered_at w.answered actor
     by true = refl
     by false = refl
 
+unmap-sound : (w : WorldData) (hart page : ℕ) (lacked : Option HartSet) → is_sound (step.unmap_turn w hart page lacked) ≡ true
+unmap-sound w hart page None = refl
+unmap-sound w hart page (Some harts) = refl
+
+ack-sound : (w : WorldData) (hart : ℕ) (requester : Option ℕ) → is_sound (step.ack_turn w hart requester) ≡ true
+ack-sound w hart None = refl
+ack-sound w hart (Some requester) = refl
+
 module _ (d : List ℕ → List ℕ) (w : WorldData) where
   due-sound : (hart : ℕ) (positions : List ℕ) (line : Line) (under : Under) → is_sound (due d w hart positions line under) ≡ true
+  due-sound hart positions (line_is.Unmap va) Idle = refl
+  due-sound hart positions (line_is.Unmap va) (Seeking walk) = refl
+  due-sound hart positions (line_is.Unmap va) (Removing page) = unmap-sound w hart page (lacked_by w hart)
+  due-sound hart positions (line_is.Unmap va) (Putting done) = refl
+  due-sound hart positions (line_is.Unmap va) (Running micro count) = refl
+  due-sound hart positions (line_is.Load va) Idle = refl
+  due-sound hart positions (line_is.Load va) (Seeking walk) = refl
+  due-sound hart positions (line_is.Load va) (Removing page) = refl
+  due-sound hart positions (line_is.Load va) (Putting done) = refl
+  due-sound hart positions (line_is.Load va) (Running micro count) = refl
+  due-sound hart positions (line_is.Store va word) Idle = refl
+  due-sound hart positions (line_is.Store va word) (Seeking walk) = refl
+  due-sound hart positions (line_is.Store va word) (Removing page) = refl
+  due-sound hart positions (line_is.Store va word) (Putting done) = refl
+  due-sound hart positions (line_is.Store va word) (Running micro count) = refl
   due-sound hart positions (line_is.Create e image pages) Idle = refl
+  due-sound hart positions (line_is.Create e image pages) (Seeking walk) = refl
+  due-sound hart positions (line_is.Create e image pages) (Removing page) = refl
   due-sound hart positions (line_is.Create e image pages) (Putting done) = refl
   due-sound hart positions (line_is.Create e image pages) (Running micro count) = refl
   due-sound hart positions (line_is.Run e budget) Idle = refl
+  due-sound hart positions (line_is.Run e budget) (Seeking walk) = refl
+  due-sound hart positions (line_is.Run e budget) (Removing page) = refl
   due-sound hart positions (line_is.Run e budget) (Putting done) = refl
   due-sound hart positions (line_is.Run e budget) (Running micro count) = refl
   due-sound hart positions (line_is.Resume e budget) Idle = refl
+  due-sound hart positions (line_is.Resume e budget) (Seeking walk) = refl
+  due-sound hart positions (line_is.Resume e budget) (Removing page) = refl
   due-sound hart positions (line_is.Resume e budget) (Putting done) = refl
   due-sound hart positions (line_is.Resume e budget) (Running micro count) = refl
-  due-sound hart positions (line_is.Send e word) Idle = refl
-  due-sound hart positions (line_is.Take e) Idle = refl
   due-sound hart positions (line_is.After actor count) Idle = waits-sound w actor count _
   due-sound hart positions line Idle = refl
+  due-sound hart positions line (Seeking walk) = refl
+  due-sound hart positions line (Removing page) = refl
   due-sound hart positions line (Putting done) = refl
   due-sound hart positions line (Running micro count) = refl
 
@@ -117,7 +213,7 @@ module _ (d : List ℕ → List ℕ) (w : WorldData) where
 
   actor-sound : (actor : Actor) (positions : List ℕ) → is_sound (actor_turn d w actor positions) ≡ true
   actor-sound (actor_is.Hart h) positions = hart-sound h.0 positions (hart_line w h.0)
-  actor-sound (actor_is.Ack h) positions = refl
+  actor-sound (actor_is.Ack h) positions = ack-sound w h.0 (owed w.fences h.0)
   actor-sound actor_is.Attacker positions = attacker-sound (attacker_line w)
 
   turn-sound : (actor : Actor) (positions : List ℕ) → is_sound (turn_of d w actor positions) ≡ true
@@ -162,3 +258,26 @@ module _ (d : List ℕ → List ℕ) (gives : List SlotUse → ℕ → Type 0) (
     fits = record { actor = there; positions = turn.given };
     is = rests_still other ∙ (rested other).1;
   }
+
+-- ---- the turn of an acknowledgement, by the requester that is owed
+
+owed_named : (requester : Option ℕ) (h : HartNo) → Some h ≡ option_map (λ (n : ℕ). record { 0 = n }) requester → requester ≡ Some h.0
+owed_named None h is = cc
+owed_named (Some n) h is = let same : h ≡ record { 0 = n } = cc in ap (λ (x : HartNo). Some x.0) (sym same)
+
+owed_none : (requester : Option ℕ) (given : Option HartNo) → given ≡ None → given ≡ option_map (λ (n : ℕ). record { 0 = n }) requester → requester ≡ None
+owed_none None given none is = refl
+owed_none (Some n) given none is = cc
+
+module _ (gives : List SlotUse → ℕ → Type 0) (w new : WorldData) (hart : ℕ) where
+  pub ack_moved : (requester : HartNo) → Some requester ≡ option_map (λ (n : ℕ). record { 0 = n }) (owed w.fences hart) → new ≡ acknowledged w hart requester.0 (fence_of w.fences requester.0)
+      → IsTurn gives (λ positions. step.ack_turn w hart (owed w.fences hart)) turned.Moved w new
+  ack_moved requester is now =
+      subst (λ o. IsTurn gives (λ positions. step.ack_turn w hart o) turned.Moved w new) (sym (owed_named (owed w.fences hart) requester is))
+      (record { positions = []; given = tt; is = now; says = λ others. refl })
+
+  pub ack_rested : (given : Option HartNo) → given ≡ None → given ≡ option_map (λ (n : ℕ). record { 0 = n }) (owed w.fences hart)
+      → IsTurn gives (λ positions. step.ack_turn w hart (owed w.fences hart)) turned.Nothing w w
+  ack_rested given none is =
+      subst (λ o. IsTurn gives (λ positions. step.ack_turn w hart o) turned.Nothing w w) (sym (owed_none (owed w.fences hart) given none is))
+      (record { positions = []; given = tt; is = refl; says = λ others. refl })

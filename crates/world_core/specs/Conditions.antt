@@ -1,19 +1,34 @@
 -- What an event of an actor needs of the world.
-use Rattle.std.specs.Prelude.{◌≡◌, ℕ, ◌+◌, ◌*◌, ◌%◌, ◌<◌, ◌≤◌, ◌^◌, true, false, IsTrue, All, List, [], length, slice_get, Option, Some}
+use Rattle.std.specs.Prelude.{◌≡◌, ℕ, ◌+◌, ◌*◌, ◌<◌, ◌≤◌, ◌^◌, true, false, IsTrue, All, List, [], length, slice_get, Option, Some, None}
+use Rattle.pl_base.specs.declared.access.Kind.TheVariants as kind
+use Rattle.pl_base.specs.declared.address.Va.{Va}
+use Rattle.pl_base.specs.declared.perms.Perms.{Perms}
 use Rattle.pl_base.specs.Perms.{are_page_perms}
 use Rattle.pl_base.specs.declared.state.State.TheVariants.{Building, On}
+use Rattle.rv_alone.specs.declared.step.Act.{Act}
+use Rattle.rv_alone.specs.declared.step.Act.TheVariants as act_is
+use Rattle.rv_alone.specs.Effect.{act_of}
+use Rattle.rv_hart.specs.declared.walks.Micro.{Micro}
+use Rattle.rv_hart.specs.declared.walks.Micro.TheVariants.{Fetching, Reaching, Faulting}
+use Rattle.rv_hart.specs.declared.walks.Walk.{Walk}
 use Rattle.mon_enclave.specs.declared.enclave.Enclave.{Enclave}
 use Rattle.mon_enclave.specs.declared.enclave.PageKind.{PageKind}
 use Rattle.mon_enclave.specs.Records.{enclave_at, page_number_of, with_enclave}
+use Rattle.mon_fence.specs.declared.fences.Fence.{Fence}
+use Rattle.mon_fence.specs.Fences.{fence_of}
+use Rattle.mon_host.specs.Unmapping.{HaveHostLeaves}
 use Rattle.mon_image.specs.declared.page.ImagePage.{ImagePage}
 use Rattle.mon_life.specs.Making.{CreateBegun, create_begun}
 use Rattle.mon_life.specs.Putting.{steps_of}
+use Rattle.mon_owner.specs.Owners.{is_host, is_mapped, may_be_mapped, owner_at}
 use Rattle.pl_history.specs.declared.line.Line.{Line}
 use Rattle.pl_history.specs.declared.line.Line.TheVariants.{Create}
 use Rattle.pl_history.specs.Protection.{pmp_of}
 use Rattle.world_attack.specs.Lines.{KeepsAnsweredFor, is_attack, line_bytes}
+use Rattle.world_core.specs.Translating.{CanSeek}
+use Rattle.world_machine.specs.HostAccessing.{WordAccess, host_request}
 use Rattle.world_machine.specs.Making.{image_of}
-use Rattle.world_machine.specs.Running.{RunNow}
+use Rattle.world_machine.specs.Running.{RunNow, run_request}
 use Rattle.world_machine.specs.Worlds.{WorldData, answered_at, hart_line}
 
 -- the actor is there, has a line that isn't answered, and the history has room for an entry
@@ -85,9 +100,58 @@ pub record CanRun (w : WorldData) (run : RunNow) : Type 0 where
   pub within : run.count < run.budget
   pub retired : (enclave_at w.enclaves run.e).retired ≤ 2 ^ 48 + run.count
 
--- and its pages are there
-pub record CanReach (w : WorldData) (run : RunNow) : Type 0 where
+-- the data of an instruction may be sought, where it loads or stores
+abbrev pub CanSeekData : WorldData → RunNow → Walk → Act → Type 0
+CanSeekData w run walk (act_is.Load address width is_signed rd) = CanSeek w (run_request w run address kind.Load) walk
+CanSeekData w run walk (act_is.Store address width value) = CanSeek w (run_request w run address kind.Store) walk
+CanSeekData w run walk act = Unit {0}
+
+-- and so what an instruction seeks that is so far
+abbrev pub CanSeekNext : WorldData → RunNow → Micro → Type 0
+CanSeekNext w run (Fetching walk) = CanSeek w (run_request w run (enclave_at w.enclaves run.e).context.pc kind.Fetch) walk
+CanSeekNext w run (Reaching word walk) = CanSeekData w run walk (act_of (enclave_at w.enclaves run.e).context word)
+CanSeekNext w run (Faulting va access) = Unit {0}
+
+-- an enclave may go on with its next instruction
+pub record CanReach (w : WorldData) (run : RunNow) (micro : Micro) : Type 0 where
   pub runs : CanRun w run
-  pub image_there : (enclave_at w.enclaves run.e).image < length w.setup.images
-  pub inside : AreInside w.ctl.zones (enclave_at w.enclaves run.e).pages
-  pub aligned : (enclave_at w.enclaves run.e).context.pc % 4 ≡ 0
+  pub seeks : CanSeekNext w run micro
+
+-- ---- the host's memory
+
+-- an access may be made, whose walk is so far
+pub record CanAccess (w : WorldData) (hart : ℕ) (va : Va) (access : WordAccess) (walk : Walk) : Type 0 where
+  pub harts : CanGo w hart
+  pub seeks : CanSeek w (host_request w hart va access) walk
+
+-- a page may be mapped with permissions that a page may have
+pub record CanMap (w : WorldData) (hart page : ℕ) (perms : Perms) : Type 0 where
+  pub harts : CanGo w hart
+  pub guarded : 2 + w.setup.tables ≤ 64 * w.ctl.zones
+  pub allowed : IsTrue (are_page_perms perms)
+  pub few : IsTrue (is_host (owner_at w.owners page)) → IsTrue (may_be_mapped (owner_at w.owners page))
+
+-- a mapping may be taken away: the leaves are those of pages, and the hart has no fence
+pub record CanUnmap (w : WorldData) (hart : ℕ) : Type 0 where
+  pub harts : CanGo w hart
+  pub tlbs : hart < length w.tlbs
+  pub fences : hart < length w.fences
+  pub guarded : 2 + w.setup.tables ≤ 64 * w.ctl.zones
+  pub leaves : HaveHostLeaves w.setup.tables w.ctl
+  pub none : fence_of w.fences hart ≡ None
+
+-- and it is being taken away
+pub record CanEndUnmap (w : WorldData) (hart page : ℕ) : Type 0 where
+  pub harts : CanGo w hart
+  pub fences : hart < length w.fences
+  pub fence : Fence
+  pub fence_is : fence_of w.fences hart ≡ Some fence
+  pub mapped : IsTrue (is_mapped (owner_at w.owners page))
+
+-- a hart may acknowledge
+pub record CanAcknowledge (w : WorldData) (hart : ℕ) : Type 0 where
+  pub actors : hart < length w.answered
+  pub harts : hart < length w.under
+  pub scripts : hart < length w.setup.lines
+  pub tlbs : hart < length w.tlbs
+  pub fences : hart < length w.fences

@@ -1,7 +1,9 @@
 pub mod Conditions
 pub mod Events
+pub mod HostAccessing
 pub mod Over
 pub mod Parts
 pub mod Report
 pub mod Running
+pub mod Translating
 pub mod Turns

@@ -2,12 +2,12 @@
 use Rattle.std.specs.Prelude.{ℕ, ◌≡◌, ◌+◌, ◌==◌, nat_lt, Bool, true, false, List, [], length}
 use Rattle.pl_base.specs.declared.actor.Actor.TheVariants as actor_is
 use Rattle.pl_history.specs.Monitor.{line_count}
-use Rattle.world_core.specs.declared.steps.Attack.{Attack}
-use Rattle.world_core.specs.declared.steps.Attack.TheVariants as attack_is
-use Rattle.world_core.specs.declared.steps.Due.{Due}
-use Rattle.world_core.specs.declared.steps.Due.TheVariants as due_is
+use Rattle.world_core.specs.declared.dues.Attack.{Attack}
+use Rattle.world_core.specs.declared.dues.Attack.TheVariants as attack_is
+use Rattle.world_core.specs.declared.dues.Due.{Due}
+use Rattle.world_core.specs.declared.dues.Due.TheVariants as due_is
 use Rattle.world_machine.specs.declared.under.Under.{Under}
-use Rattle.world_machine.specs.declared.under.Under.TheVariants.{Idle, Putting, Running}
+use Rattle.world_machine.specs.declared.under.Under.TheVariants.{Idle, Seeking, Removing, Putting, Running}
 use Rattle.world_machine.specs.Runs.{is_still}
 use Rattle.world_machine.specs.Steps.{actor_turn, turned_by}
 use Rattle.world_machine.specs.Worlds.{WorldData, answered_at}
@@ -17,6 +17,7 @@ pub record HasLengths (w : WorldData) : Type 0 where
   pub harts : length w.under ≡ w.setup.harts
   pub actors : length w.answered ≡ w.setup.harts + 1
   pub scripts : length w.setup.lines ≡ w.setup.harts
+  pub fences : length w.fences ≡ w.setup.harts
 
 -- a line that hasn't begun waits, or there is none
 abbrev pub waits_still : WorldData → Due → Bool
@@ -24,9 +25,12 @@ waits_still w (due_is.After actor count) = nat_lt (answered_at w.answered actor)
 waits_still w due_is.Nothing = true
 waits_still w due = false
 
--- a line has no event
+-- A line has no event. A removal under way moves, or waits for acknowledgements, which then move.
 abbrev pub due_still : WorldData → Due → Under → Bool
 due_still w due Idle = waits_still w due
+due_still w (due_is.Load va) (Seeking walk) = false
+due_still w (due_is.Store va word) (Seeking walk) = false
+due_still w (due_is.Unmap va) (Removing page) = false
 due_still w (due_is.Create e image) (Putting done) = false
 due_still w (due_is.Run e budget first) (Running micro count) = false
 due_still w due under = true
@@ -43,6 +47,9 @@ is_done w actor = answered_at w.answered actor == line_count w.setup actor
 module _ (digest_of : List ℕ → List ℕ) where
   abbrev pub hart_still : WorldData → ℕ → Bool
   hart_still w h = is_still (turned_by (actor_turn digest_of w (actor_is.Hart (record { 0 = h })) []))
+
+  abbrev pub ack_still : WorldData → ℕ → Bool
+  ack_still w h = is_still (turned_by (actor_turn digest_of w (actor_is.Ack (record { 0 = h })) []))
 
   abbrev pub attacker_still : WorldData → Bool
   attacker_still w = is_still (turned_by (actor_turn digest_of w actor_is.Attacker []))

@@ -1,13 +1,16 @@
 -- A run under way as plain data, and what its accesses decide.
-use Rattle.std.specs.Prelude.{ℕ, Bool, Option}
-use Rattle.pl_base.specs.declared.access.Kind.{Kind}
+use Rattle.std.specs.Prelude.{ℕ, Bool}
 use Rattle.pl_base.specs.declared.place.Place.{Place}
 use Rattle.rv_alone.specs.Effect.{act_of, advanced, loaded}
 use Rattle.mon_enclave.specs.declared.enclave.Enclave.{Enclave}
 use Rattle.mon_enclave.specs.Records.{enclave_at}
+use Rattle.rv_hart.specs.declared.walks.Micro.{Micro}
+use Rattle.rv_hart.specs.declared.walks.Micro.TheVariants.{Fetching, Reaching}
+use Rattle.rv_hart.specs.declared.walks.Walk.{Walk}
 use Rattle.world_core.specs.declared.running.Run.{Run}
-use Rattle.world_machine.specs.Making.{image_of}
-use Rattle.world_machine.specs.Pages.{located, numbers_of, part_of_word}
+use Rattle.world_core.specs.declared.walking.Purpose.{Purpose}
+use Rattle.world_core.specs.declared.walking.Purpose.TheVariants as purpose_is
+use Rattle.world_machine.specs.Pages.{part_of_word}
 use Rattle.world_machine.specs.Running.{RunNow, acts, faults, retired_with, retires}
 use Rattle.world_machine.specs.Worlds.{WorldData}
 
@@ -18,9 +21,10 @@ run_now run = record { hart = run.hart.0; e = run.e.0; budget = run.budget; coun
 abbrev pub runner : WorldData → RunNow → Enclave
 runner w run = enclave_at w.enclaves run.e
 
--- the page that an access of a record goes to
-abbrev pub page_located : WorldData → Enclave → Kind → ℕ → Option ℕ
-page_located w r kind address = located kind (image_of w.setup r.image).pages (numbers_of r.pages) address
+-- what the walk of an instruction is for
+abbrev pub micro_with : Purpose → Walk → Micro
+micro_with purpose_is.Word = Fetching
+micro_with (purpose_is.Data word) = Reaching word
 
 -- the eight bytes that hold the word at pc are read
 abbrev pub fetch_goes : RunNow → WorldData → ℕ → WorldData

@@ -1,5 +1,11 @@
 -- A hart's line without its pages, the turn that it makes, and what a turn of the machine came to.
-use Rattle.std.specs.Prelude.{ℕ, ◌≡◌, ◌<◌, Bool, true, false, List, length, Option, Some, None}
+use Rattle.std.specs.Prelude.{ℕ, ◌≡◌, ◌+◌, ◌%◌, ◌<◌, ◌==◌, Bool, true, false, if◌then◌else◌, List, length, Option, Some, None}
+use Rattle.pl_base.specs.declared.address.Va.{Va}
+use Rattle.pl_base.specs.declared.number.Space.{Space}
+use Rattle.pl_base.specs.declared.perms.Perms.{Perms}
+use Rattle.rv_hart.specs.declared.walks.Micro.{Micro}
+use Rattle.rv_hart.specs.declared.walks.Micro.TheVariants.{Fetching}
+use Rattle.rv_hart.specs.declared.walks.Walk.TheVariants.{Start}
 use Rattle.mem_ctl.specs.Results.{AreGiven}
 use Rattle.mem_slots.specs.declared.slot_use.SlotUse.{SlotUse}
 use Rattle.pl_history.specs.declared.answer.Answer.TheVariants as answer_is
@@ -9,26 +15,32 @@ use Rattle.pl_history.specs.declared.line.Line.{Line}
 use Rattle.pl_history.specs.declared.line.Line.TheVariants as line_is
 use Rattle.pl_base.specs.declared.actor.Actor.{Actor}
 use Rattle.pl_base.specs.declared.actor.Actor.TheVariants as actor_is
-use Rattle.world_core.specs.declared.steps.Attack.{Attack}
-use Rattle.world_core.specs.declared.steps.Attack.TheVariants as attack_is
-use Rattle.world_core.specs.declared.steps.Due.{Due}
-use Rattle.world_core.specs.declared.steps.Due.TheVariants as due_is
-use Rattle.world_core.specs.Conditions.{CanAnswer, CanAttack, CanGo, CanMake, CanPut, CanReach}
+use Rattle.world_core.specs.declared.dues.Attack.{Attack}
+use Rattle.world_core.specs.declared.dues.Attack.TheVariants as attack_is
+use Rattle.world_core.specs.declared.dues.Due.{Due}
+use Rattle.world_core.specs.declared.dues.Due.TheVariants as due_is
+use Rattle.world_core.specs.Conditions.{CanAccess, CanAcknowledge, CanAnswer, CanAttack, CanEndUnmap, CanGo, CanMake, CanMap, CanPut, CanReach, CanUnmap}
 use Rattle.world_machine.specs.declared.turned.Turned.{Turned}
 use Rattle.world_machine.specs.declared.turned.Turned.TheVariants as turned
 use Rattle.world_machine.specs.declared.under.Under.{Under}
-use Rattle.world_machine.specs.declared.under.Under.TheVariants.{Idle, Putting, Running}
+use Rattle.world_machine.specs.declared.under.Under.TheVariants.{Idle, Seeking, Removing, Putting, Running}
 use Rattle.world_machine.specs.Answering.{answers, quiet}
 use Rattle.world_machine.specs.Attacking.{attacker_waited, attacks}
+use Rattle.world_machine.specs.HostAccessing.{WordAccess, accesses_host, begins_access, loads, stores}
+use Rattle.world_machine.specs.HostMapping.{begins_unmap, lacked_by, maps}
 use Rattle.world_machine.specs.Making.{begin_create, put_next}
 use Rattle.world_machine.specs.Running.{begin_run, runs}
-use Rattle.world_machine.specs.Steps.{Turn, moves, rests, shown_by, turned_by, waits}
+use Rattle.world_machine.specs.Steps.{Turn, moves, rests, shown_by, turned_by, unmap_turn, waits}
 use Rattle.world_machine.specs.Talking.{sends_word, takes_word}
 use Rattle.world_machine.specs.Worlds.{WorldData, attacker_line, hart_line, under_at}
 
 -- ---- lines without their pages
 
 abbrev pub due_of : Option Line → Due
+due_of (Some (line_is.Load va)) = due_is.Load va
+due_of (Some (line_is.Store va word)) = due_is.Store va word
+due_of (Some (line_is.Map va page perms)) = due_is.Map va page perms
+due_of (Some (line_is.Unmap va)) = due_is.Unmap va
 due_of (Some (line_is.Create e image pages)) = due_is.Create e image
 due_of (Some (line_is.Run e budget)) = due_is.Run e budget true
 due_of (Some (line_is.Resume e budget)) = due_is.Run e budget false
@@ -36,6 +48,32 @@ due_of (Some (line_is.Send e word)) = due_is.Send e word
 due_of (Some (line_is.Take e)) = due_is.Take e
 due_of (Some (line_is.After actor count)) = due_is.After actor count
 due_of line = due_is.Nothing
+
+-- ---- what a turn needs, by the line and how far it is
+
+abbrev pub CanAccessSoFar : WorldData → ℕ → Va → WordAccess → Under → Type 0
+CanAccessSoFar w hart va access Idle = CanAccess w hart va access Start
+CanAccessSoFar w hart va access (Seeking walk) = CanAccess w hart va access walk × (va.0 % 8 ≡ 0)
+CanAccessSoFar w hart va access under = Unit {0}
+
+abbrev pub CanMapSoFar : WorldData → ℕ → ℕ → Perms → Under → Type 0
+CanMapSoFar w hart page perms Idle = CanMap w hart page perms
+CanMapSoFar w hart page perms under = Unit {0}
+
+abbrev pub CanUnmapSoFar : WorldData → ℕ → Under → Type 0
+CanUnmapSoFar w hart Idle = CanUnmap w hart
+CanUnmapSoFar w hart (Removing page) = CanEndUnmap w hart page
+CanUnmapSoFar w hart under = Unit {0}
+
+abbrev pub CanCreateSoFar : WorldData → ℕ → ℕ → ℕ → Under → Type 0
+CanCreateSoFar w hart e image Idle = CanMake w hart e image
+CanCreateSoFar w hart e image (Putting done) = CanPut w hart e image done
+CanCreateSoFar w hart e image under = Unit {0}
+
+abbrev pub CanRunSoFar : WorldData → ℕ → ℕ → ℕ → Under → Type 0
+CanRunSoFar w hart e budget Idle = CanGo w hart × (e < length w.enclaves)
+CanRunSoFar w hart e budget (Running micro count) = CanReach w (record { hart = hart; e = e; budget = budget; count = count }) micro
+CanRunSoFar w hart e budget under = Unit {0}
 
 -- what a line needs that is answered at once
 abbrev pub CanSay : WorldData → ℕ → Due → Type 0
@@ -48,26 +86,41 @@ abbrev pub CanSayIdle : WorldData → ℕ → Due → Under → Type 0
 CanSayIdle w hart due Idle = CanSay w hart due
 CanSayIdle w hart due under = Unit {0}
 
--- what a turn needs, by the line and how far it is
 abbrev pub CanDue : WorldData → ℕ → Due → Under → Type 0
-CanDue w hart (due_is.Create e image) Idle = CanMake w hart e.0 image
-CanDue w hart (due_is.Create e image) (Putting done) = CanPut w hart e.0 image done
-CanDue w hart (due_is.Create e image) (Running micro count) = Unit {0}
-CanDue w hart (due_is.Run e budget first) Idle = CanGo w hart × (e.0 < length w.enclaves)
-CanDue w hart (due_is.Run e budget first) (Running micro count) = CanReach w (record { hart = hart; e = e.0; budget = budget; count = count })
-CanDue w hart (due_is.Run e budget first) (Putting done) = Unit {0}
+CanDue w hart (due_is.Load va) under = CanAccessSoFar w hart va loads under
+CanDue w hart (due_is.Store va word) under = CanAccessSoFar w hart va (stores word) under
+CanDue w hart (due_is.Map va page perms) under = CanMapSoFar w hart page perms under
+CanDue w hart (due_is.Unmap va) under = CanUnmapSoFar w hart under
+CanDue w hart (due_is.Create e image) under = CanCreateSoFar w hart e.0 image under
+CanDue w hart (due_is.Run e budget first) under = CanRunSoFar w hart e.0 budget under
 CanDue w hart due under = CanSayIdle w hart due under
 
+-- ---- the turn of a line, so far
+
 module _ (digest_of : List ℕ → List ℕ) where
+  abbrev pub access_turn : WorldData → ℕ → List ℕ → Va → WordAccess → Under → Turn
+  access_turn w hart positions va access Idle = moves (begins_access digest_of w hart positions va access)
+  access_turn w hart positions va access (Seeking walk) = moves (accesses_host digest_of w hart positions va access walk)
+  access_turn w hart positions va access under = rests turned.Done
+
+  abbrev pub map_turn : WorldData → ℕ → List ℕ → Va → ℕ → Perms → Under → Turn
+  map_turn w hart positions va page perms Idle = moves (maps digest_of w hart positions va page perms)
+  map_turn w hart positions va page perms under = rests turned.Done
+
+  abbrev pub unmap_so_far : WorldData → ℕ → List ℕ → Va → Under → Turn
+  unmap_so_far w hart positions va Idle = moves (begins_unmap digest_of w hart positions va)
+  unmap_so_far w hart positions va (Removing page) = unmap_turn w hart page (lacked_by w hart)
+  unmap_so_far w hart positions va under = rests turned.Done
+
   abbrev pub create_turn : WorldData → ℕ → List ℕ → List ℕ → ℕ → ℕ → Under → Turn
   create_turn w hart positions pages e image Idle = moves (begin_create w hart e image pages)
   create_turn w hart positions pages e image (Putting done) = moves (put_next digest_of w hart positions e image done)
-  create_turn w hart positions pages e image (Running micro count) = rests turned.Done
+  create_turn w hart positions pages e image under = rests turned.Done
 
   abbrev pub run_turn : WorldData → ℕ → List ℕ → ℕ → ℕ → Bool → Under → Turn
   run_turn w hart positions e budget first Idle = moves (begin_run w hart e first)
   run_turn w hart positions e budget first (Running micro count) = moves (runs digest_of w hart positions e budget micro count)
-  run_turn w hart positions e budget first (Putting done) = rests turned.Done
+  run_turn w hart positions e budget first under = rests turned.Done
 
 -- a line that is answered at once
 abbrev pub say_turn : WorldData → ℕ → Due → Turn
@@ -83,6 +136,10 @@ begun_turn under turn = rests turned.Done
 module _ (digest_of : List ℕ → List ℕ) where
   -- the turn of a hart's line, with the pages that it names
   abbrev pub due_turn : WorldData → ℕ → List ℕ → List ℕ → Due → Under → Turn
+  due_turn w hart positions pages (due_is.Load va) under = access_turn digest_of w hart positions va loads under
+  due_turn w hart positions pages (due_is.Store va word) under = access_turn digest_of w hart positions va (stores word) under
+  due_turn w hart positions pages (due_is.Map va page perms) under = map_turn digest_of w hart positions va page perms under
+  due_turn w hart positions pages (due_is.Unmap va) under = unmap_so_far digest_of w hart positions va under
   due_turn w hart positions pages (due_is.Create e image) under = create_turn digest_of w hart positions pages e.0 image under
   due_turn w hart positions pages (due_is.Run e budget first) under = run_turn digest_of w hart positions e.0 budget first under
   due_turn w hart positions pages due under = begun_turn under (say_turn w hart due)
@@ -93,6 +150,19 @@ pub record CanTurn (w : WorldData) (hart : ℕ) : Type 0 where
   pub harts : hart < length w.under
   pub scripts : hart < length w.setup.lines
   pub due : CanDue w hart (due_of (hart_line w hart)) (under_at w.under hart)
+
+-- ---- after an acknowledgement
+
+-- where the instruction of an enclave is, after a fence of a space was acknowledged
+abbrev pub micro_restarted : Space → Due → Micro → Micro
+micro_restarted space (due_is.Run e budget first) micro = if space.0 == e.0 + 1 then Fetching Start else micro
+micro_restarted space due micro = micro
+
+-- how far a line is then
+abbrev pub restarted_due : Space → Due → Under → Under
+restarted_due space due (Seeking walk) = Seeking (if space.0 == 0 then Start else walk)
+restarted_due space due (Running micro count) = Running (micro_restarted space due micro) count
+restarted_due space due under = under
 
 -- ---- the attacker's lines without their bytes
 
@@ -120,7 +190,7 @@ pub record CanAttackTurn (w : WorldData) : Type 0 where
 -- what an actor's turn needs
 abbrev pub CanActor : WorldData → Actor → Type 0
 CanActor w (actor_is.Hart h) = CanTurn w h.0
-CanActor w (actor_is.Ack h) = Unit {0}
+CanActor w (actor_is.Ack h) = CanAcknowledge w h.0
 CanActor w actor_is.Attacker = CanAttackTurn w
 
 -- ---- turns

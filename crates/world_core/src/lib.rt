@@ -1,8 +1,12 @@
 //! The world: the machine that every actor's turns move, as plain data moves it by steps.
 #![tactic(auto)]
 
+mod acknowledging;
 mod acting;
 mod attacking;
+mod dues;
+mod host_accessing;
+mod host_mapping;
 mod machine;
 mod making;
 mod opening;
@@ -13,7 +17,11 @@ mod rounds;
 mod running;
 mod steps;
 mod talking;
+mod tlbs;
+mod translating;
+mod turns;
 mod unbuilt;
+mod walking;
 mod world;
 
 pub use unbuilt::first_unbuilt;

@@ -9,8 +9,10 @@ ghost use Rattle.world_machine.specs.Answering.{answers, begins, entry_now, goes
 ghost use Rattle.world_machine.specs.Making.{begins_unless};
 ghost use Rattle.world_machine.specs.Worlds.{answered_at, under_at};
 
+use crate::tlbs::Tlbs;
 use mem_ctl::{Collision, Ctl};
 use mon_enclave::Enclaves;
+use mon_fence::Fences;
 use mon_owner::Owners;
 use pl_base::{EncNo, HartNo, Listed, No};
 use pl_digest::Digester;
@@ -28,6 +30,8 @@ pub(crate) struct Machine<D: Digester, F> {
     pub(crate) ctl: Ctl<D, F>,
     pub(crate) owners: Owners,
     pub(crate) enclaves: Enclaves,
+    pub(crate) tlbs: Tlbs,
+    pub(crate) fences: Fences,
     pub(crate) under: Listed<Under>,
     pub(crate) answered: Listed<u32>,
     pub(crate) history: History,
@@ -43,7 +47,7 @@ impl<D: Digester, F> Model for Machine<D, F> {
 
     ghost Value = { WorldData × F };
 
-    ghost view = { λ m. (world_data m.setup m.ctl.0 m.owners m.enclaves m.under m.answered m.history m.collision m.moves, m.ctl.1) };
+    ghost view = { λ m. (world_data m.setup m.ctl.0 m.owners m.enclaves m.tlbs m.fences m.under m.answered m.history m.collision m.moves, m.ctl.1) };
 
     ghost invariant = { λ m. m.pmp ≡ pmp_of m.setup };
 }

@@ -3,9 +3,11 @@ ghost use Rattle.std.specs.Prelude.{◌≡◌, IfOk, replicate};
 ghost use Rattle.world_machine.specs.Reached.{opening_world};
 
 use crate::machine::Machine;
+use crate::tlbs::Tlbs;
 use mem_ctl::Ctl;
 use mem_slots::Choice;
 use mon_enclave::Enclaves;
+use mon_fence::Fences;
 use mon_owner::Owners;
 use mon_tables::start_words;
 use pl_base::{Listed, Memory};
@@ -57,6 +59,8 @@ impl<D: Digester, F: Drop> Machine<D, F> {
         let guarded = guarded_pages(parts.tables, parts.enclaves);
         let owners = Owners::new(alloc, guarded, all_pages(parts.zones))?;
         let enclaves = Enclaves::new(alloc, parts.enclaves)?;
+        let tlbs = Tlbs::new(alloc, parts.harts)?;
+        let fences = Fences::new(parts.harts);
         let under = idle_lines(alloc, parts.harts)?;
         let answered = zero_counts(alloc, usize::from(parts.harts) + 1)?;
         let (entries, bytes) = room_for(&setup);
@@ -68,6 +72,8 @@ impl<D: Digester, F: Drop> Machine<D, F> {
             ctl,
             owners,
             enclaves,
+            tlbs,
+            fences,
             under,
             answered,
             history,

@@ -2,12 +2,12 @@
 ghost use Rattle.std.specs.Prelude.{◌≡◌, ◌≤◌, ◌<◌, ◌+◌, length};
 ghost use Rattle.std.specs.List.{list_all, range_with_len};
 ghost use Rattle.pl_history.specs.Monitor.{line_count};
-ghost use Rattle.world_core.specs.Over.{HasLengths, attack_still, attacker_still, due_still, hart_still, is_done, waits_still};
+ghost use Rattle.world_core.specs.Over.{HasLengths, ack_still, attack_still, attacker_still, due_still, hart_still, is_done, waits_still};
 ghost use Rattle.world_machine.specs.Runs.{all_answered, nobody_moves, over_of};
 ghost use Rattle.world_machine.specs.Worlds.{answered_at};
 
+use crate::dues::{Attack, Due};
 use crate::machine::Machine;
-use crate::steps::{Attack, Due};
 use pl_base::HartNo;
 use pl_digest::Digester;
 use pl_history::SetupParts;
@@ -40,6 +40,10 @@ impl<D: Digester, F> Machine<D, F> {
         match due {
             Due::After { actor, count } => self.answered_of(actor) < count,
             Due::Nothing => true,
+            Due::Load { .. } => false,
+            Due::Store { .. } => false,
+            Due::Map { .. } => false,
+            Due::Unmap { .. } => false,
             Due::Create { .. } => false,
             Due::Run { .. } => false,
             Due::Send { .. } => false,
@@ -53,6 +57,9 @@ impl<D: Digester, F> Machine<D, F> {
     {
         match (due, under) {
             (_, Under::Idle) => self.waits_still(due),
+            (Due::Load { .. }, Under::Seeking { .. }) => false,
+            (Due::Store { .. }, Under::Seeking { .. }) => false,
+            (Due::Unmap { .. }, Under::Removing { .. }) => false,
             (Due::Create { .. }, Under::Putting { .. }) => false,
             (Due::Run { .. }, Under::Running { .. }) => false,
             _ => true,
@@ -81,6 +88,15 @@ impl<D: Digester, F> Machine<D, F> {
         self.due_still(due, under)
     }
 
+    /// Whether no fence needs a hart's acknowledgement.
+    fn ack_still(&self, hart: HartNo) -> bool
+        requires lengths { HasLengths self.now.0 }
+        requires hart { hart.0 < self.now.0.setup.harts }
+        ensures { result ≡ ack_still D.digest_of self.now.0 hart.0 }
+    {
+        self.owed(hart).is_none()
+    }
+
     /// Whether the attacker has no event.
     fn attacker_still(&self) -> bool
         requires { HasLengths self.now.0 }
@@ -98,6 +114,20 @@ impl<D: Digester, F> Machine<D, F> {
         let harts = self.attacker();
         for hart in 0..harts {
             if !self.hart_still(HartNo(hart)) {
+                return false;
+            }
+        }
+        true
+    }
+
+    /// Whether no fence needs an acknowledgement.
+    fn acks_still(&self) -> bool
+        requires { HasLengths self.now.0 }
+        ensures { result ≡ list_all (ack_still D.digest_of self.now.0) (range_with_len 0 self.now.0.setup.harts) }
+    {
+        let harts = self.attacker();
+        for hart in 0..harts {
+            if !self.ack_still(HartNo(hart)) {
                 return false;
             }
         }
@@ -134,8 +164,9 @@ impl<D: Digester, F> Machine<D, F> {
         ensures { result ≡ nobody_moves D.digest_of self.now.0 }
     {
         let harts = self.harts_still();
+        let acks = self.acks_still();
         let attacker = self.attacker_still();
-        harts & attacker
+        harts & acks & attacker
     }
 
     /// How the run is over, if it is.

@@ -11,7 +11,11 @@ fn is_built(line: &Line) -> bool
 {
     matches!(
         line,
-        Line::Create { .. }
+        Line::Load { .. }
+            | Line::Store { .. }
+            | Line::Map { .. }
+            | Line::Unmap { .. }
+            | Line::Create { .. }
             | Line::Run { .. }
             | Line::Resume { .. }
             | Line::Send { .. }

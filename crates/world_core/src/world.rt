@@ -1,5 +1,5 @@
 // The world: the machine in a state that a run of its setup reaches.
-ghost use Rattle.std.specs.Prelude.{◌≡◌, ◌≢◌, ℕ, List, None, IfSome, IfOk, IsTrue, option_map, map, length, ◌≤◌};
+ghost use Rattle.std.specs.Prelude.{◌≡◌, ◌≢◌, ℕ, List, None, IfSome, IfOk, IsTrue, option_map, map, length, ◌≤◌, ◌<◌};
 ghost use Rattle.std.specs.Fn.{FnReturnsAt};
 ghost use Rattle.std.specs.Option.{option_copied};
 ghost use Rattle.mem_slots.specs.Choices.{NamesPosition};
@@ -7,22 +7,24 @@ ghost use Rattle.pl_io.specs.Puts.{Puts};
 ghost use Rattle.world_core.specs.Report.{world_report};
 ghost use Rattle.mem_slots.specs.Slots.{use_of};
 ghost use Rattle.pl_history.specs.Rules.{is_actor};
-ghost use Rattle.world_machine.specs.Adding.{AnswersAtMostOne, actor_number, moves_after};
+ghost use Rattle.world_machine.specs.Adding.{AnswersAtMostOne, moves_after};
 ghost use Rattle.world_machine.specs.Reached.{Reached, opening_world};
 ghost use Rattle.world_core.specs.Parts.{collision_data};
 ghost use Rattle.world_machine.specs.Runs.{over_of};
 ghost use Rattle.world_machine.specs.Standing.{Kept};
 ghost use Rattle.world_machine.specs.Steps.{StepOf, turn_of, turned_by};
 ghost use Rattle.world_machine.specs.Unbuilt.{first_unbuilt_of};
+ghost use Rattle.world_machine.specs.Worlds.{tlb_at};
 
 use crate::machine::Machine;
 use crate::report::put_report;
 use mem_ctl::Collision;
 use mem_slots::{Choice, SlotUse};
-use pl_base::{Actor, Failed, Memory};
+use pl_base::{Actor, Failed, HartNo, Memory};
 use pl_digest::Digester;
 use pl_history::{History, Setup};
 use pl_io::Sink;
+use rv_tlb::Tlb;
 use std::alloc::Global;
 use std::marker::Model;
 use world_machine::{Finished, Turned, numbers_fit};
@@ -68,14 +70,14 @@ impl<D: Digester, F: Drop> World<D, F> {
 
 impl<D: Digester, F: Fn(&[SlotUse]) -> usize> World<D, F> {
     /// An actor's turn: its next event, or why it makes none. Anything but `Moved` changes nothing. At most one answer joins the history, to
-    /// the actor's first line that isn't answered. The hart, if it is one, is there.
+    /// the actor's first line that isn't answered; an acknowledgement answers nothing. The hart, if it is one, is there.
     pub fn turn(&mut self, actor: Actor) -> Turned
         requires actor { IsTrue (is_actor self.old.0.setup.harts actor) }
         requires choice { NamesPosition F.Fn self.old.1 }
         ensures step { StepOf D.digest_of (FnReturnsAt F.Fn self.old.1) self.old.0 actor self.new.0 }
         ensures turned { (positions : List ℕ) → result ≡ turned_by (turn_of D.digest_of self.old.0 actor positions) }
         ensures still { result ≢ Turned.Moved → self.new ≡ self.old }
-        ensures answer { AnswersAtMostOne self.old.0 (actor_number self.old.0.setup.harts actor) self.new.0 }
+        ensures answer { AnswersAtMostOne self.old.0 actor self.new.0 }
         ensures moves { self.new.0.moves ≡ moves_after result self.old.0.moves }
         ensures choice { self.new.1 ≡ self.old.1 }
     {
@@ -127,6 +129,14 @@ impl<D: Digester, F> World<D, F> {
         ensures kept { Kept D.digest_of self.now.0 }
     {
         &self.machine.history
+    }
+
+    /// The translations that a hart has. The hart is there.
+    pub fn tlb(&self, h: HartNo) -> &Tlb
+        requires { h.0 < self.now.0.setup.harts }
+        ensures { result.now ≡ tlb_at self.now.0.tlbs h.0 }
+    {
+        self.machine.tlb(h)
     }
 
     /// The root of the root table, on chip.

@@ -48,6 +48,7 @@ use Rattle.world_machine.proofs.LineMoves.{LineMoves, joined}
 use Rattle.world_machine.proofs.Lists.{ChangedAt, changed_set, if_other, if_same}
 use Rattle.world_machine.proofs.QuietRows.{attacks_live, idle_has_none, idle_put_none, none_some}
 use Rattle.world_machine.proofs.RowKept.{attacks_frame, line_after, row_kept, same_sizes}
+use Rattle.world_machine.proofs.TranslationFrames.{quiet_translations, removal_so}
 
 -- a page that has an owner is there
 owner_within : (owners : List Owner) (page : ℕ) (o : Option Owner) → slice_get owners page ≡ o → is_host (option_map owner_of o) ≡ true → page < length owners
@@ -227,6 +228,14 @@ module _ (digest_of : List ℕ → List ℕ) (room_stays : RoomStays) (w : World
     number_by true = refl
     number_by false = refl
 
+    space_by : (c : Bool) → (state_by c).space ≡ s.space
+    space_by true = refl
+    space_by false = refl
+
+    removals_by : (c : Bool) → (state_by c).removals ≡ s.removals
+    removals_by true = refl
+    removals_by false = refl
+
     progress_by : (c : Bool) (a : ℕ) → (written s placed c).progress a ≡ s.progress a
     progress_by true a = refl
     progress_by false a = refl
@@ -263,7 +272,7 @@ module _ (digest_of : List ℕ → List ℕ) (room_stays : RoomStays) (w : World
 
       -- bytes are written off chip
       pub wrote_kept : Kept digest_of (attacker_goes_on (record w { ctl = with_off_chip w.ctl y.off_chip; history = y.history }))
-      wrote_kept = row_kept digest_of w actor (with_off_chip w.ctl y.off_chip) w.owners w.enclaves w.under answered' y.history (state_by changed) Idle (at + 1) k none (record {
+      wrote_kept = row_kept digest_of w actor (with_off_chip w.ctl y.off_chip) w.owners w.enclaves w.tlbs w.fences w.under answered' y.history (state_by changed) Idle (at + 1) k none (record {
         line = moves;
         sizes = record { zones = refl; slots = refl; pages = refl; guarded = λ page is. is; numbers = refl };
         trees = off_chip_is_free digest_of w.ctl y.off_chip k.trees leaves.size;
@@ -287,6 +296,9 @@ module _ (digest_of : List ℕ → List ℕ) (room_stays : RoomStays) (w : World
         other_lines = λ other differs. subst (λ f. LineUnderWay w.setup (page_bytes w.ctl.mirror) (enclave_at w.enclaves) f other (hart_line w other) (under_at w.under other)) (sym (number_by changed)) (k.stands.lines other);
         own_line = tt;
         own_apart = λ other e differs own there. none_some e _ (idle_has_none _) own;
+        translations = quiet_translations digest_of w k (with_off_chip w.ctl y.off_chip) refl (state_by changed) (space_by changed) (removals_by changed) (number_by changed) actor
+            (line_after w answered') (under_at w.under) (λ hart other. ap (slice_get (script_of w.setup hart)) (answered_change.others hart other)) (λ hart other. refl)
+            (removal_so digest_of w k actor Idle idle refl) idle;
       })
 
   -- ---- a keeping, and a wait
@@ -294,7 +306,7 @@ module _ (digest_of : List ℕ → List ℕ) (room_stays : RoomStays) (w : World
   -- an answer that changes no byte and no number
   unmoved : (history : HistoryData) → LineMoves w actor w.under answered' history (answer s actor) Idle (at + 1)
       → Kept digest_of (attacker_goes_on (record w { history = history }))
-  unmoved history line_moves = row_kept digest_of w actor w.ctl w.owners w.enclaves w.under answered' history (answer s actor) Idle (at + 1) k none (record {
+  unmoved history line_moves = row_kept digest_of w actor w.ctl w.owners w.enclaves w.tlbs w.fences w.under answered' history (answer s actor) Idle (at + 1) k none (record {
     line = line_moves;
     sizes = same_sizes w.setup w.ctl w.owners w.enclaves;
     trees = k.trees;
@@ -308,6 +320,8 @@ module _ (digest_of : List ℕ → List ℕ) (room_stays : RoomStays) (w : World
     other_lines = λ other differs. k.stands.lines other;
     own_line = tt;
     own_apart = λ other e differs own there. none_some e _ (idle_has_none _) own;
+    translations = quiet_translations digest_of w k w.ctl refl (answer s actor) refl refl refl actor (line_after w answered') (under_at w.under)
+        (λ hart other. ap (slice_get (script_of w.setup hart)) (answered_change.others hart other)) (λ hart other. refl) (removal_so digest_of w k actor Idle idle refl) idle;
   })
 
   abbrev world_from : Exposed → WorldData

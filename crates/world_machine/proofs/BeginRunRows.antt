@@ -11,6 +11,8 @@ use Rattle.pl_base.specs.States.{is_free, run_refusal}
 use Rattle.rv_alone.specs.Flat.{Status, on}
 use Rattle.rv_hart.specs.declared.walks.Micro.TheVariants.{Fetching}
 use Rattle.rv_hart.specs.declared.walks.Walk.TheVariants.{Start}
+use Rattle.rv_tlb.specs.declared.tlb.TlbEntry.{TlbEntry}
+use Rattle.mem_ctl.specs.Data.{CtlData}
 use Rattle.mon_enclave.specs.declared.enclave.Enclave.{Enclave}
 use Rattle.mon_enclave.specs.Records.{enclave_at, free_enclave, with_enclave}
 use Rattle.mon_life.specs.Running.{may_run, run_begun, run_refusal_of}
@@ -27,21 +29,24 @@ use Rattle.world_machine.specs.declared.under.Under.{Under}
 use Rattle.world_machine.specs.declared.under.Under.TheVariants.{Idle, Putting, Running}
 use Rattle.world_machine.specs.Answering.{entry_now, with_entry}
 use Rattle.world_machine.specs.BytesAgree.{HasPut}
-use Rattle.world_machine.specs.EnclavesAgree.{EnclaveStands, StatusStands}
+use Rattle.world_machine.specs.EnclavesAgree.{EnclaveStands, EnclavesAgree, StatusStands}
 use Rattle.world_machine.specs.LinesUnderWay.{IsRunning, LineUnderWay, number_under_way}
 use Rattle.world_machine.specs.Making.{begins_unless}
-use Rattle.world_machine.specs.RecordsAgree.{LiveAgrees, RecordAgrees, RetiredAgrees, is_begun}
+use Rattle.world_machine.specs.RecordsAgree.{LiveAgrees, RecordAgrees, RecordsAgree, RetiredAgrees, is_begun}
 use Rattle.world_machine.specs.Running.{begin_run}
 use Rattle.world_machine.specs.Standing.{Kept, state_of, written_page}
+use Rattle.world_machine.specs.TranslationsAgree.{IsFresh, TranslationsStand, WalkingStands, walking}
 use Rattle.world_machine.specs.Worlds.{WorldData, answered_at, hart_line, under_at}
 use Rattle.world_machine.proofs.Frames.{Frame, enclaves_frame, line_frame, records_frame}
 use Rattle.world_machine.proofs.LineKinds.{begun_line}
 use Rattle.world_machine.proofs.LineMoves.{LineMoves}
+use Rattle.world_machine.proofs.LineTranslations.{isnt_removing}
 use Rattle.world_machine.proofs.Lists.{ChangedAt, changed_set, everywhere, if_other, if_same}
 use Rattle.world_machine.proofs.QuietRows.{answers_kept, attacks_live}
-use Rattle.world_machine.proofs.RowKept.{row_kept}
+use Rattle.world_machine.proofs.RowKept.{line_after, row_kept}
 use Rattle.world_machine.proofs.SentOut.{retired_few}
 use Rattle.world_machine.proofs.SetupFacts.{line_forms, used_there}
+use Rattle.world_machine.proofs.TranslationFrames.{KeepsSpace, SpacesStay, TablePagesStay, entries_stay, removal_so, same_keeps, translations_stay, written_stay}
 
 -- `run`, or `resume` where it isn't the first run
 abbrev pub run_of : Bool → EncNo → ℕ → Line
@@ -147,6 +152,12 @@ running_number false e budget f is = ap (λ o. unwrap_or o e.0) is
 running_put : (first : Bool) (e : EncNo) (budget page : ℕ) → HasPut (Some (run_of first e budget)) (Running (Fetching Start) 0) page → ⊥
 running_put true e budget page put = put
 running_put false e budget page put = put
+
+-- the walk of its first fetch hasn't begun
+running_walk : (ctl : CtlData) (Fresh : TlbEntry → Type 0) (tables : ℕ) (rec : ℕ → Enclave) (first : Bool) (e : EncNo) (budget : ℕ)
+    → WalkingStands ctl Fresh (walking tables rec (Some (run_of first e budget)) (Running (Fetching Start) 0))
+running_walk ctl Fresh tables rec true e budget = tt
+running_walk ctl Fresh tables rec false e budget = tt
 
 module _ (digest_of : List ℕ → List ℕ) (room_stays : RoomStays) (w : WorldData) (k : Kept digest_of w) (none : w.collision ≡ None) (hart : ℕ) (below : hart < w.setup.harts)
     (idle : under_at w.under hart ≡ Idle) (first : Bool) (e : EncNo) (budget : ℕ) (here : hart_line w hart ≡ Some (run_of first e budget)) where
@@ -259,20 +270,65 @@ module _ (digest_of : List ℕ → List ℕ) (room_stays : RoomStays) (w : World
           hart_is = refl;
           within = some_budget first e budget (line_forms w.setup hart (answered_at w.answered hart) (run_of first e budget) k.sizes.rules here);
           retired = let h : r.retired ≡ n.retired = same_retired in omega arith;
-          instruction = refl;
+          instruction = tt;
         }))
 
+    records_agree : RecordsAgree (enclave_at enclaves') s'.number
+    records_agree = records_frame w.setup e.0 (enclave_at w.enclaves) (enclave_at enclaves') s.number s'.number (written_page w) (written_page w) w.owners w.owners frame k.stands.records
+        (subst (λ y. RecordAgrees y (s'.number e.0)) (sym change.here) (subst (RecordAgrees now) (sym number_here) now_agrees))
+
+    enclaves_agree : EnclavesAgree w.setup (written_page w) w.owners (enclave_at enclaves') s'.number
+    enclaves_agree = enclaves_frame w.setup e.0 (enclave_at w.enclaves) (enclave_at enclaves') s.number s'.number (written_page w) (written_page w) w.owners w.owners frame k.stands.enclaves
+        (λ used. subst (λ y. EnclaveStands w.setup (written_page w) w.owners e.0 y (s'.number e.0)) (sym change.here)
+        (subst (EnclaveStands w.setup (written_page w) w.owners e.0 now) (sym number_here) now_stands))
+
+    -- a number that is under way isn't the one that begins
+    not_theirs : (other f : ℕ) → number_under_way (hart_line w other) (under_at w.under other) ≡ Some f → f ≢ e.0
+    not_theirs other f is same =
+        false≢true (sym (busy w.setup (written_page w) (enclave_at w.enclaves) s.number other f (hart_line w other) (under_at w.under other) (k.stands.lines other) is)
+        ∙ ap (λ g. is_ready (enclave_at w.enclaves g).state) same ∙ ready)
+
+    -- ---- translations
+
+    spaces : SpacesStay digest_of w k w.ctl (enclave_at enclaves') w.owners s'
+    spaces = record {
+      space = refl;
+      removals = refl;
+      numbers = everywhere (λ f. (s.number f).live ≡ true → KeepsSpace (s.number f) (s'.number f)) e.0
+          (λ was. subst (KeepsSpace n) (sym number_here) (record { live = was; image = refl; pages = refl }))
+          (λ f other was. same_keeps (s.number f) (s'.number f) (number_other f other) was);
+      records = records_agree;
+      enclaves = enclaves_agree;
+    }
+
+    table_pages : TablePagesStay digest_of w k w.ctl (enclave_at enclaves') w.owners s'
+    table_pages = written_stay digest_of w k (enclave_at enclaves') w.owners s' (everywhere (λ f. (s.number f).live ≡ false → (s'.number f).live ≡ false) e.0
+        (λ was. absurd (false≢true (sym was ∙ live))) (λ f other was. ap (λ (m : Number). m.live) (number_other f other) ∙ was))
+
+    translations : TranslationsStand w.setup w.ctl w.tlbs w.fences (enclave_at enclaves') s' (line_after w w.answered) (under_at (slice_set w.under hart (Running (Fetching Start) 0)))
+    translations = translations_stay digest_of w k w.ctl (enclave_at enclaves') w.owners s' spaces table_pages hart w.tlbs
+        (line_after w w.answered) (under_at (slice_set w.under hart (Running (Fetching Start) 0))) (record {
+          lines = λ other differs. refl;
+          unders = moves.under_change.others;
+          contexts = λ other f differs is. ap (λ (y : Enclave). y.context) (change.others f (not_theirs other f is));
+          harts = refl;
+          tlbs = λ other differs. refl;
+          none_removed = removal_so digest_of w k hart Idle idle refl;
+          removes_none = ap isnt_removing moves.under_change.here;
+          entries = entries_stay digest_of w k w.ctl (enclave_at enclaves') w.owners s' spaces hart;
+          walk = subst (λ u. WalkingStands w.ctl (IsFresh w.setup s' w.fences hart) (walking w.setup.tables (enclave_at enclaves') (hart_line w hart) u)) (sym moves.under_change.here)
+              (subst (λ l. WalkingStands w.ctl (IsFresh w.setup s' w.fences hart) (walking w.setup.tables (enclave_at enclaves') l (Running (Fetching Start) 0))) (sym here)
+              (running_walk w.ctl (IsFresh w.setup s' w.fences hart) w.setup.tables (enclave_at enclaves') first e budget));
+        })
+
     begun_kept : Kept digest_of (begins_unless None (record w { enclaves = enclaves' }) hart (Running (Fetching Start) 0))
-    begun_kept = row_kept digest_of w hart w.ctl w.owners enclaves' (slice_set w.under hart (Running (Fetching Start) 0)) w.answered (with_entry w.history (entry_now w hart answer_is.Begun)) s' (Running (Fetching Start) 0) (answered_at w.answered hart) k none (record {
+    begun_kept = row_kept digest_of w hart w.ctl w.owners enclaves' w.tlbs w.fences (slice_set w.under hart (Running (Fetching Start) 0)) w.answered (with_entry w.history (entry_now w hart answer_is.Begun)) s' (Running (Fetching Start) 0) (answered_at w.answered hart) k none (record {
       line = moves;
       sizes = record { zones = refl; slots = refl; pages = refl; guarded = λ page is. is; numbers = change.size };
       trees = k.trees;
       owners_agree = record { owner = k.stands.owners.owner; maps = k.stands.owners.maps };
-      records = records_frame w.setup e.0 (enclave_at w.enclaves) (enclave_at enclaves') s.number s'.number (written_page w) (written_page w) w.owners w.owners frame k.stands.records
-          (subst (λ y. RecordAgrees y (s'.number e.0)) (sym change.here) (subst (RecordAgrees now) (sym number_here) now_agrees));
-      enclaves_agree = enclaves_frame w.setup e.0 (enclave_at w.enclaves) (enclave_at enclaves') s.number s'.number (written_page w) (written_page w) w.owners w.owners frame k.stands.enclaves
-          (λ used. subst (λ y. EnclaveStands w.setup (written_page w) w.owners e.0 y (s'.number e.0)) (sym change.here)
-          (subst (EnclaveStands w.setup (written_page w) w.owners e.0 now) (sym number_here) now_stands));
+      records = records_agree;
+      enclaves_agree = enclaves_agree;
       host = k.stands.host;
       attacks = attacks_live w hart s' (slice_set w.under hart (Running (Fetching Start) 0)) w.answered digest_of k refl
           (everywhere (λ f. (s'.number f).live ≡ (s.number f).live) e.0 (ap (λ (m : Number). m.live) number_here) (λ f other. ap (λ (m : Number). m.live) (number_other f other)))
@@ -282,15 +338,13 @@ module _ (digest_of : List ℕ → List ℕ) (room_stays : RoomStays) (w : World
           (subst (λ l. HasPut l (Running (Fetching Start) 0) page) here (subst (λ u. HasPut (hart_line w hart) u page) moves.under_change.here put))));
       other_lines = λ other differs. line_frame w.setup e.0 (enclave_at w.enclaves) (enclave_at enclaves') s.number s'.number (written_page w) (written_page w) w.owners w.owners frame
           k.stands.enclaves (λ f used. subst (λ m. f < m) k.sizes.numbers (used_there w.enclaves f used)) other (hart_line w other) (under_at w.under other)
-          (λ f is same. false≢true (sym (busy w.setup (written_page w) (enclave_at w.enclaves) s.number other f (hart_line w other) (under_at w.under other) (k.stands.lines other) is)
-          ∙ ap (λ g. is_ready (enclave_at w.enclaves g).state) same ∙ ready))
+          (not_theirs other)
           (k.stands.lines other);
       own_line = subst (λ l. LineUnderWay w.setup (written_page w) (enclave_at enclaves') s'.number hart l (Running (Fetching Start) 0)) (sym here)
           (running_line w.setup (written_page w) (enclave_at enclaves') s'.number hart first e budget runs);
       own_apart = λ other f differs own theirs.
-          let same : e.0 ≡ f = running_number first e budget f (ap (λ l. number_under_way l (Running (Fetching Start) 0)) (sym here) ∙ own) in
-          false≢true (sym (busy w.setup (written_page w) (enclave_at w.enclaves) s.number other f (hart_line w other) (under_at w.under other) (k.stands.lines other) theirs)
-          ∙ ap (λ g. is_ready (enclave_at w.enclaves g).state) (sym same) ∙ ready);
+          not_theirs other f theirs (sym (running_number first e budget f (ap (λ l. number_under_way l (Running (Fetching Start) 0)) (sym here) ∙ own)));
+      translations = translations;
     })
 
   begin_by : (o : Option No) → run_refusal_of w.enclaves e.0 first ≡ o
@@ -299,7 +353,7 @@ module _ (digest_of : List ℕ → List ℕ) (room_stays : RoomStays) (w : World
   begin_by (Some cause) is = answers_kept digest_of room_stays w k none hart below (run_of first e budget) (answer_is.No cause) refl here
       (subst (λ b. AllowedAnswer w.setup s (run_of first e budget) b (answer_is.No cause)) (sym not_begun)
       (refused_run w.setup s first e budget cause (ap (run_refusal (may_run first)) agrees.state ∙ is)))
-      (refused_stays s hart first e budget cause)
+      (refused_stays s hart first e budget cause) (removal_so digest_of w k hart Idle idle refl)
   begin_by None is = begun_kept (ready_by first r.state is) is
 
   pub begin_run_kept : Kept digest_of (begin_run w hart e.0 first).world

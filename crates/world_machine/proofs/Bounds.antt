@@ -38,7 +38,7 @@ use Rattle.pl_history.proofs.ProgressLemmas.{answers_move}
 use Rattle.world_attack.specs.Room.{answers_due, entries_due}
 use Rattle.world_attack.proofs.RoomLemmas.{line_there, setups_need, sum_drops}
 use Rattle.world_machine.specs.declared.under.Under.TheVariants.{Running}
-use Rattle.world_machine.specs.Budgets.{AreBudgets, HasBudget, IsBudget}
+use Rattle.world_machine.specs.LineNumbers.{ScriptsFit, NumbersFit, FitsWord}
 use Rattle.world_machine.specs.LinesUnderWay.{LineUnderWay}
 use Rattle.world_machine.specs.RecordsAgree.{RetiredAgrees}
 use Rattle.world_machine.specs.Standing.{Kept, state_of, written_page}
@@ -117,10 +117,10 @@ module _ (s : Monitor) (m : ℕ) (all : AtMost m s) where
   attack_quiet part (attack.After actor count) = none_quiet
 
   -- a run that leaves adds less than its budget
-  run_more : (e budget count : ℕ) (why : Why) → IsBudget budget → count ≤ budget → AtMost (m + 2 ^ 32) (left s e count why)
+  run_more : (e budget count : ℕ) (why : Why) → FitsWord budget → count ≤ budget → AtMost (m + 2 ^ 32) (left s e count why)
   run_more e budget count why small few = changed s e (m + 2 ^ 32) _ (more s m (2 ^ 32) all) (let h = all e in omega (arith, h, small, few))
 
-  left_more : (setup : SetupParts) (hart : ℕ) (line : Line) (begun : Bool) (count : ℕ) (why : Why) → HasBudget line → AllowedAnswer setup s line begun (answer_is.Left count why)
+  left_more : (setup : SetupParts) (hart : ℕ) (line : Line) (begun : Bool) (count : ℕ) (why : Why) → NumbersFit line → AllowedAnswer setup s line begun (answer_is.Left count why)
       → AtMost (m + 2 ^ 32) ((changes s hart line begun).left count why)
   left_more setup hart (line_is.Run e budget) true count why small allowed = run_more e.0 budget count why small allowed.2.0
   left_more setup hart (line_is.Run e budget) false count why small allowed = absurd allowed
@@ -149,34 +149,34 @@ answer_more all m actor (answer_is.Kept pa from len) quiet leaves = more all.kep
 at_place : {A : Type 0} (P : A → Type 0) (xs : List A) (i : ℕ) (x : A) → All P xs → slice_get xs i ≡ Some x → P x
 at_place P xs i x all is = subst P (get_or_from_slice_get xs i x x is) (All-get_or P xs i x (slice_get_within xs i x is) all)
 
-script_budget : (scripts : List (List Line)) (hart at : ℕ) (o : Option (List Line)) (line : Line) → AreBudgets scripts → slice_get scripts hart ≡ o → slice_get (unwrap_or o []) at ≡ Some line
-    → HasBudget line
-script_budget scripts hart at None line budgets is there = cc
-script_budget scripts hart at (Some lines) line budgets is there =
-    at_place HasBudget lines at line (at_place (λ (lines : List Line). All HasBudget lines) scripts hart lines budgets is) there
+pub script_fits : (scripts : List (List Line)) (hart at : ℕ) (o : Option (List Line)) (line : Line) → ScriptsFit scripts → slice_get scripts hart ≡ o → slice_get (unwrap_or o []) at ≡ Some line
+    → NumbersFit line
+script_fits scripts hart at None line fit is there = cc
+script_fits scripts hart at (Some lines) line fit is there =
+    at_place NumbersFit lines at line (at_place (λ (lines : List Line). All NumbersFit lines) scripts hart lines fit is) there
 
-not_attackers : (o : Option AttackLine) (line : Line) → option_map of_attacker o ≡ Some (of_hart line) → ⊥
+pub not_attackers : (o : Option AttackLine) (line : Line) → option_map of_attacker o ≡ Some (of_hart line) → ⊥
 not_attackers None line same = cc
 not_attackers (Some x) line same = cc
 
-same_line : (o : Option Line) (line : Line) → option_map of_hart o ≡ Some (of_hart line) → o ≡ Some line
+pub same_line : (o : Option Line) (line : Line) → option_map of_hart o ≡ Some (of_hart line) → o ≡ Some line
 same_line None line same = cc
 same_line (Some x) line same = cc
 
 module _ (setup : SetupParts) (bytes : List ℕ) where
-  line_budget : (actor at : ℕ) (line : Line) (test : Bool) → AreBudgets setup.lines
-      → (if test then option_map of_attacker (slice_get setup.attacker at) else option_map of_hart (slice_get (script_of setup actor) at)) ≡ Some (of_hart line) → HasBudget line
-  line_budget actor at line true budgets there = absurd (not_attackers (slice_get setup.attacker at) line there)
-  line_budget actor at line false budgets there =
-      script_budget setup.lines actor at (slice_get setup.lines actor) line budgets refl (same_line (slice_get (script_of setup actor) at) line there)
+  line_fits : (actor at : ℕ) (line : Line) (test : Bool) → ScriptsFit setup.lines
+      → (if test then option_map of_attacker (slice_get setup.attacker at) else option_map of_hart (slice_get (script_of setup actor) at)) ≡ Some (of_hart line) → NumbersFit line
+  line_fits actor at line true fit there = absurd (not_attackers (slice_get setup.attacker at) line there)
+  line_fits actor at line false fit there =
+      script_fits setup.lines actor at (slice_get setup.lines actor) line fit refl (same_line (slice_get (script_of setup actor) at) line there)
 
-  line_adds : (s : Monitor) (before : List Entry) (m actor at : ℕ) (part : List ℕ) (now : Answer) (line : ActorLine) → AreBudgets setup.lines → line_at setup actor at ≡ Some line
+  line_adds : (s : Monitor) (before : List Entry) (m actor at : ℕ) (part : List ℕ) (now : Answer) (line : ActorLine) → ScriptsFit setup.lines → line_at setup actor at ≡ Some line
       → AllowedLine setup bytes s before line (s.progress actor).begun now → AtMost m s → AtMost (m + 2 ^ 32 * ends now) (after_line s actor part now line)
-  line_adds s before m actor at part now (of_hart line) budgets there allowed all =
+  line_adds s before m actor at part now (of_hart line) fit there allowed all =
       answer_more (changes s actor line (s.progress actor).begun) m actor now (line_quiet s m all actor line (s.progress actor).begun)
-      (λ count why is. left_more s m all setup actor line (s.progress actor).begun count why (line_budget actor at line (actor == setup.harts) budgets there)
+      (λ count why is. left_more s m all setup actor line (s.progress actor).begun count why (line_fits actor at line (actor == setup.harts) fit there)
       (subst (AllowedAnswer setup s line (s.progress actor).begun) is allowed))
-  line_adds s before m actor at part now (of_attacker line) budgets there allowed all =
+  line_adds s before m actor at part now (of_attacker line) fit there allowed all =
       answer_more (attack_changes s part line) m actor now (attack_quiet s m all part line) (λ count why is. attack_left s m part line count why all)
     where
       attack_left : (s : Monitor) (m : ℕ) (part : List ℕ) (line : AttackLine) (count : ℕ) (why : Why) → AtMost m s → AtMost (m + 2 ^ 32) ((attack_changes s part line).left count why)
@@ -185,11 +185,11 @@ module _ (setup : SetupParts) (bytes : List ℕ) where
       attack_left s m part (attack.Back name) count why all = more s m (2 ^ 32) all
       attack_left s m part (attack.After who count') count why all = more s m (2 ^ 32) all
 
-  entry_adds : (s : Monitor) (before : List Entry) (entry : Entry) (m : ℕ) → AreBudgets setup.lines → Allowed setup bytes s before entry → AtMost m s
+  entry_adds : (s : Monitor) (before : List Entry) (entry : Entry) (m : ℕ) → ScriptsFit setup.lines → Allowed setup bytes s before entry → AtMost m s
       → AtMost (m + 2 ^ 32 * ends entry.answer) (after setup bytes s entry)
-  entry_adds s before entry m budgets allowed all =
+  entry_adds s before entry m fit allowed all =
       subst (λ (o : Option ActorLine). AtMost (m + 2 ^ 32 * ends entry.answer) (option_map_or (after_line s entry.actor (named_part bytes entry.answer) entry.answer) o s)) (sym allowed.1.1)
-      (line_adds s before m entry.actor entry.line (named_part bytes entry.answer) entry.answer allowed.1.0 budgets allowed.1.1 allowed.1.2 all)
+      (line_adds s before m entry.actor entry.line (named_part bytes entry.answer) entry.answer allowed.1.0 fit allowed.1.1 allowed.1.2 all)
 
 -- ---- the lines that aren't answered
 
@@ -263,12 +263,12 @@ record Fits (setup : SetupParts) (top : ℕ) (s : Monitor) : Type 0 where
   pub paid : most + 2 ^ 32 * lines_due setup s ≤ top
   pub all : AtMost most s
 
-module _ (setup : SetupParts) (bytes : List ℕ) (rules : IsSetup setup) (budgets : AreBudgets setup.lines) where
+module _ (setup : SetupParts) (bytes : List ℕ) (rules : IsSetup setup) (fit : ScriptsFit setup.lines) where
   entry_fits : (top : ℕ) (s : Monitor) (before : List Entry) (entry : Entry) → Allowed setup bytes s before entry → Fits setup top s → Fits setup top (after setup bytes s entry)
   entry_fits top s before entry allowed fits = record {
     most = fits.most + 2 ^ 32 * ends entry.answer;
     paid = omega (arith, fits.paid, due_less setup bytes s before entry rules allowed);
-    all = entry_adds setup bytes s before entry fits.most budgets allowed fits.all;
+    all = entry_adds setup bytes s before entry fits.most fit allowed fits.all;
   }
 
   all_fit : (top : ℕ) (s : Monitor) (before entries : List Entry) → AllAllowed setup bytes s before entries → Fits setup top s → Fits setup top (state_after setup bytes s entries)
@@ -305,7 +305,7 @@ module _ (setup : SetupParts) (bytes : List ℕ) (rules : IsSetup setup) (budget
 
 module _ (digest_of : List ℕ → List ℕ) (w : WorldData) (k : Kept digest_of w) where
   pub monitor_retired : (e : ℕ) → ((state_of w).number e).retired ≤ 2 ^ 48
-  monitor_retired = retired_few w.setup w.history.bytes k.sizes.rules k.sizes.budgets w.history.entries k.legal
+  monitor_retired = retired_few w.setup w.history.bytes k.sizes.rules k.sizes.lines_fit w.history.entries k.legal
 
   -- a number that isn't on
   pub rested_retired : (e : ℕ) → (enclave_at w.enclaves e).state ≢ state_is.On → (enclave_at w.enclaves e).retired ≤ 2 ^ 48
@@ -321,7 +321,7 @@ module _ (digest_of : List ℕ → List ℕ) (w : WorldData) (k : Kept digest_of
     pub within : count < budget
     pub retired : (enclave_at w.enclaves e.0).retired ≤ 2 ^ 48 + count
 
-  run_budget : (first : Bool) (e : EncNo) (budget : ℕ) → HasBudget (run_line first e budget) → IsBudget budget
+  run_budget : (first : Bool) (e : EncNo) (budget : ℕ) → NumbersFit (run_line first e budget) → FitsWord budget
   run_budget true e budget is = is
   run_budget false e budget is = is
 
@@ -333,7 +333,7 @@ module _ (digest_of : List ℕ → List ℕ) (w : WorldData) (k : Kept digest_of
       (subst (λ (l : Option Line). LineUnderWay w.setup (written_page w) (enclave_at w.enclaves) (state_of w).number hart l (under_at w.under hart)) line (k.stands.lines hart)) in
       let running = is_running w.setup (written_page w) (enclave_at w.enclaves) (state_of w).number hart budget count micro e first stands in
       record {
-        small = run_budget first e budget (script_budget w.setup.lines hart _ (slice_get w.setup.lines hart) (run_line first e budget) k.sizes.budgets refl line);
+        small = run_budget first e budget (script_fits w.setup.lines hart _ (slice_get w.setup.lines hart) (run_line first e budget) k.sizes.lines_fit refl line);
         within = running.within;
         retired = omega (arith, running.retired, monitor_retired e.0);
       }

@@ -3,7 +3,7 @@ use Rattle.std.proofs.Common.{◌≡◌, ◌≢◌, ℕ, ◌%◌, ◌<◌, true,
 use Rattle.std.specs.Prelude.{slice_set, Contains}
 use Rattle.std.specs.List.{All}
 use Rattle.std.specs.Option.{option_map_or}
-use Rattle.std.proofs.lemmas.Bool.{cases_Bool}
+use Rattle.std.proofs.lemmas.Bool.{cases_Bool, false≢true}
 use Rattle.std.proofs.lemmas.List.{length-map}
 use Rattle.std.proofs.lemmas.List.Elements.{All-contains_itself, All-weaker}
 use Rattle.pl_base.specs.declared.number.EncNo.{EncNo}
@@ -34,21 +34,24 @@ use Rattle.world_machine.specs.declared.under.Under.{Under}
 use Rattle.world_machine.specs.declared.under.Under.TheVariants.{Idle, Putting}
 use Rattle.world_machine.specs.Answering.{answers, begins, entry_now, with_entry}
 use Rattle.world_machine.specs.BytesAgree.{HasPut, HostBytesAgree, OnlyAttacksDiffer}
-use Rattle.world_machine.specs.EnclavesAgree.{EnclaveStands, IsOwn}
+use Rattle.world_machine.specs.EnclavesAgree.{EnclaveStands, EnclavesAgree, IsOwn}
 use Rattle.world_machine.specs.LinesUnderWay.{IsPutting, LineUnderWay, number_under_way}
 use Rattle.world_machine.specs.Making.{begin_create, begins_unless, image_of}
-use Rattle.world_machine.specs.RecordsAgree.{OwnersAgree, RecordAgrees, is_begun, owner_of}
+use Rattle.world_machine.specs.RecordsAgree.{OwnersAgree, RecordAgrees, RecordsAgree, is_begun, owner_of}
 use Rattle.world_machine.specs.Standing.{Kept, state_of, written_page}
+use Rattle.world_machine.specs.TranslationsAgree.{IsFresh, TranslationsStand, WalkingStands, walking}
 use Rattle.world_machine.specs.Worlds.{WorldData, answered_at, hart_line, under_at}
 use Rattle.world_machine.proofs.CreateRefusals.{MayCreate, may_create, refusal_same}
 use Rattle.world_machine.proofs.Frames.{Frame, enclaves_frame, line_frame, records_frame}
 use Rattle.world_machine.proofs.LineKinds.{begun_line}
 use Rattle.world_machine.proofs.LineMoves.{LineMoves}
-use Rattle.world_machine.proofs.Lists.{ChangedAt, changed_set, if_other, if_same}
+use Rattle.world_machine.proofs.LineTranslations.{isnt_removing}
+use Rattle.world_machine.proofs.Lists.{ChangedAt, changed_set, everywhere, if_other, if_same}
 use Rattle.world_machine.proofs.OwnersGiven.{given_here, given_other, in_among, length_given, not_listed}
 use Rattle.world_machine.proofs.QuietRows.{answers_kept}
 use Rattle.world_machine.proofs.RowKept.{RowFacts, attacks_frame, line_after, row_kept}
 use Rattle.world_machine.proofs.SetupFacts.{CreateNames, create_names, entry_aligned, used_there}
+use Rattle.world_machine.proofs.TranslationFrames.{KeepsSpace, SpacesStay, TablePagesStay, entries_stay, live_in_use, removal_so, same_keeps, translations_stay, written_stay}
 use Rattle.world_machine.proofs.UnderWay.{line_used, own_numbers, some_same}
 
 module _ (digest_of : List ℕ → List ℕ) (room_stays : RoomStays) (w : WorldData) (k : Kept digest_of w) (none : w.collision ≡ None) (hart : ℕ) (below : hart < w.setup.harts)
@@ -71,6 +74,7 @@ module _ (digest_of : List ℕ → List ℕ) (room_stays : RoomStays) (w : World
   refused_kept cause is = answers_kept digest_of room_stays w k none hart below (Create e image pages) (answer_is.No cause) refl here
       (subst (λ b. AllowedAnswer w.setup s (Create e image pages) b (answer_is.No cause)) (sym not_begun) (sym refusal_is ∙ is))
       (ap (λ b. answer (if b then made_faulted s e.0 else s) hart) (ap (λ (p : Progress). p.begun) (k.stands.progress hart) ∙ not_begun))
+      (removal_so digest_of w k hart Idle idle refl)
 
   -- ---- begun
 
@@ -252,7 +256,50 @@ module _ (digest_of : List ℕ → List ℕ) (room_stays : RoomStays) (w : World
         })
         k.stands.attacks
 
-    facts : RowFacts digest_of w hart w.ctl owners' enclaves' under' w.answered (with_entry w.history (entry_now w hart answer_is.Begun)) s' (Putting 0) (answered_at w.answered hart)
+    records_agree : RecordsAgree (enclave_at enclaves') s'.number
+    records_agree = records_frame w.setup e.0 (enclave_at w.enclaves) (enclave_at enclaves') s.number s'.number (written_page w) (written_page w) w.owners owners' frame k.stands.records
+        (subst (λ x. RecordAgrees x (s'.number e.0)) (sym change.here) (subst (RecordAgrees r) (sym number_here) agrees))
+
+    enclaves_agree : EnclavesAgree w.setup (written_page w) owners' (enclave_at enclaves') s'.number
+    enclaves_agree = enclaves_frame w.setup e.0 (enclave_at w.enclaves) (enclave_at enclaves') s.number s'.number (written_page w) (written_page w) w.owners owners' frame k.stands.enclaves
+        (λ used. subst (λ x. EnclaveStands w.setup (written_page w) owners' e.0 x (s'.number e.0)) (sym change.here)
+        (subst (EnclaveStands w.setup (written_page w) owners' e.0 r) (sym number_here) stands))
+
+    -- ---- translations
+
+    -- the number wasn't live
+    never_live : (s.number e.0).live ≡ true → ⊥
+    never_live live = false≢true (sym (live_in_use (enclave_at w.enclaves e.0) (s.number e.0) (k.stands.records e.0) live) ∙ free_before)
+
+    spaces : SpacesStay digest_of w k w.ctl (enclave_at enclaves') owners' s'
+    spaces = record {
+      space = refl;
+      removals = refl;
+      numbers = everywhere (λ f. (s.number f).live ≡ true → KeepsSpace (s.number f) (s'.number f)) e.0 (λ live. absurd (never_live live))
+          (λ f other live. same_keeps (s.number f) (s'.number f) (number_other f other) live);
+      records = records_agree;
+      enclaves = enclaves_agree;
+    }
+
+    table_pages : TablePagesStay digest_of w k w.ctl (enclave_at enclaves') owners' s'
+    table_pages = written_stay digest_of w k (enclave_at enclaves') owners' s' (everywhere (λ f. (s.number f).live ≡ false → (s'.number f).live ≡ false) e.0
+        (λ was. ap (λ (m : Number). m.live) number_here) (λ f other was. ap (λ (m : Number). m.live) (number_other f other) ∙ was))
+
+    translations : TranslationsStand w.setup w.ctl w.tlbs w.fences (enclave_at enclaves') s' (line_after w w.answered) (under_at under')
+    translations = translations_stay digest_of w k w.ctl (enclave_at enclaves') owners' s' spaces table_pages hart w.tlbs (line_after w w.answered) (under_at under') (record {
+      lines = λ other differs. refl;
+      unders = moves.under_change.others;
+      contexts = λ other f differs is. ap (λ (x : Enclave). x.context) (change.others f (not_under_way other f is));
+      harts = refl;
+      tlbs = λ other differs. refl;
+      none_removed = removal_so digest_of w k hart Idle idle refl;
+      removes_none = ap isnt_removing moves.under_change.here;
+      entries = entries_stay digest_of w k w.ctl (enclave_at enclaves') owners' s' spaces hart;
+      walk = subst (λ u. WalkingStands w.ctl (IsFresh w.setup s' w.fences hart) (walking w.setup.tables (enclave_at enclaves') (hart_line w hart) u)) (sym moves.under_change.here)
+          (subst (λ l. WalkingStands w.ctl (IsFresh w.setup s' w.fences hart) (walking w.setup.tables (enclave_at enclaves') l (Putting 0))) (sym here) tt);
+    })
+
+    facts : RowFacts digest_of w hart w.ctl owners' enclaves' w.tlbs w.fences under' w.answered (with_entry w.history (entry_now w hart answer_is.Begun)) s' (Putting 0) (answered_at w.answered hart)
     facts = record {
       line = moves;
       sizes = record {
@@ -264,11 +311,8 @@ module _ (digest_of : List ℕ → List ℕ) (room_stays : RoomStays) (w : World
       };
       trees = k.trees;
       owners_agree = owners_agree;
-      records = records_frame w.setup e.0 (enclave_at w.enclaves) (enclave_at enclaves') s.number s'.number (written_page w) (written_page w) w.owners owners' frame k.stands.records
-          (subst (λ x. RecordAgrees x (s'.number e.0)) (sym change.here) (subst (RecordAgrees r) (sym number_here) agrees));
-      enclaves_agree = enclaves_frame w.setup e.0 (enclave_at w.enclaves) (enclave_at enclaves') s.number s'.number (written_page w) (written_page w) w.owners owners' frame k.stands.enclaves
-          (λ used. subst (λ x. EnclaveStands w.setup (written_page w) owners' e.0 x (s'.number e.0)) (sym change.here)
-          (subst (EnclaveStands w.setup (written_page w) owners' e.0 r) (sym number_here) stands));
+      records = records_agree;
+      enclaves_agree = enclaves_agree;
       host = host;
       attacks = attacks;
       other_lines = λ other differs. line_frame w.setup e.0 (enclave_at w.enclaves) (enclave_at enclaves') s.number s'.number (written_page w) (written_page w) w.owners owners' frame
@@ -277,10 +321,11 @@ module _ (digest_of : List ℕ → List ℕ) (room_stays : RoomStays) (w : World
       own_line = subst (λ l. LineUnderWay w.setup (written_page w) (enclave_at enclaves') s'.number hart l (Putting 0)) (sym here)
           (subst (λ x. IsPutting w.setup (written_page w) x e.0 image pages 0) (sym change.here) putting);
       own_apart = λ other f differs own is. not_under_way other f is (some_same f e.0 (sym own ∙ ap (λ l. number_under_way l (Putting 0)) here));
+      translations = translations;
     }
 
     begun_kept : Kept digest_of (begins (record w { owners = owners'; enclaves = enclaves' }) hart (Putting 0))
-    begun_kept = row_kept digest_of w hart w.ctl owners' enclaves' under' w.answered (with_entry w.history (entry_now w hart answer_is.Begun)) s' (Putting 0) (answered_at w.answered hart) k none facts
+    begun_kept = row_kept digest_of w hart w.ctl owners' enclaves' w.tlbs w.fences under' w.answered (with_entry w.history (entry_now w hart answer_is.Begun)) s' (Putting 0) (answered_at w.answered hart) k none facts
 
   -- ---- the event, by whether it is refused
 

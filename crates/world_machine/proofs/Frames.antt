@@ -6,6 +6,10 @@ use Rattle.std.proofs.lemmas.List.{length-map}
 use Rattle.std.proofs.lemmas.List.Elements.{All-get_or, All-weaker, recursion_from_All}
 use Rattle.std.proofs.lemmas.Bool.{cases_Bool}
 use Rattle.pl_base.specs.States.{is_free}
+use Rattle.pl_base.specs.declared.access.Kind.{Kind}
+use Rattle.pl_base.specs.declared.access.Kind.TheVariants as kind
+use Rattle.rv_alone.specs.declared.step.Context.{Context}
+use Rattle.rv_alone.specs.Effect.{act_of}
 use Rattle.rv_alone.specs.Flat.{fetched}
 use Rattle.rv_hart.specs.declared.walks.Micro.{Micro}
 use Rattle.rv_hart.specs.declared.walks.Micro.TheVariants.{Fetching, Reaching, Faulting}
@@ -17,15 +21,15 @@ use Rattle.mon_life.specs.Pages.{PagePut, page_put_at}
 use Rattle.mon_owner.specs.declared.owners.Owner.{Owner}
 use Rattle.mon_tables.specs.Tables.{table_number}
 use Rattle.pl_history.specs.declared.line.Line.{Line}
-use Rattle.pl_history.specs.declared.line.Line.TheVariants.{Create, Run, Resume}
+use Rattle.pl_history.specs.declared.line.Line.TheVariants.{Load, Store, Unmap, Create, Run, Resume}
 use Rattle.pl_history.specs.declared.setup.SetupParts.{SetupParts}
 use Rattle.pl_history.specs.Monitor.{Number}
 use Rattle.world_machine.specs.declared.under.Under.{Under}
-use Rattle.world_machine.specs.declared.under.Under.TheVariants.{Idle, Putting, Running}
+use Rattle.world_machine.specs.declared.under.Under.TheVariants.{Idle, Seeking, Removing, Putting, Running}
 use Rattle.world_machine.specs.EnclavesAgree.{EnclaveStands, EnclavesAgree, IsOwn}
-use Rattle.world_machine.specs.LinesUnderWay.{InstructionStands, IsPutting, IsRunning, LineUnderWay, number_under_way}
+use Rattle.world_machine.specs.LinesUnderWay.{InstructionStands, IsAccessed, IsPutting, IsRunning, LineUnderWay, MakesAccess, access_of, number_under_way}
 use Rattle.world_machine.specs.Making.{image_of}
-use Rattle.world_machine.specs.Pages.{flat_pages, numbers_of}
+use Rattle.world_machine.specs.Pages.{flat_pages, located, numbers_of}
 use Rattle.world_machine.specs.RecordsAgree.{RecordAgrees, RecordsAgree}
 use Rattle.world_machine.proofs.Lists.{everywhere}
 use Rattle.mon_life.proofs.StepLemmas.{image_stands, tables_stand}
@@ -38,6 +42,25 @@ flat_pages-same bytes bytes' [] numbers same = refl
 flat_pages-same bytes bytes' (page ∷ image) [] same = refl
 flat_pages-same bytes bytes' (page ∷ image) (number ∷ numbers) same =
     λ i. record { perms = page.perms; bytes = same.0 i } ∷ flat_pages-same bytes bytes' image numbers same.1 i
+
+-- what holds of the next instruction holds of it in a record with the same context and pages, which have the same bytes
+module _ (image : List ImagePage) (before after : ℕ → List ℕ) (r r' : Enclave) (context : r'.context ≡ r.context) (numbers : numbers_of r'.pages ≡ numbers_of r.pages)
+    (bytes : flat_pages after image (numbers_of r'.pages) ≡ flat_pages before image (numbers_of r.pages)) where
+  makes_still : (word : ℕ) (access : Kind × ℕ) → MakesAccess image before r word access → MakesAccess image after r' word access
+  makes_still word access k = record {
+    word_is = ap (λ (c : Context). fetched (flat_pages after image (numbers_of r'.pages)) c.pc) context ∙ ap (λ pages. fetched pages r.context.pc) bytes ∙ k.word_is;
+    access_is = ap (λ (c : Context). access_of (act_of c word)) context ∙ k.access_is;
+  }
+
+  accessed_still : (va : ℕ) (access : Kind) → IsAccessed image before r va access → IsAccessed image after r' va access
+  accessed_still va kind.Fetch k = k ∙ sym (ap (λ (c : Context). c.pc) context)
+  accessed_still va kind.Load k = (k.0, makes_still k.0 (kind.Load, va) k.1)
+  accessed_still va kind.Store k = (k.0, makes_still k.0 (kind.Store, va) k.1)
+
+  pub instruction_stays : (micro : Micro) → InstructionStands image before r micro → InstructionStands image after r' micro
+  instruction_stays (Fetching walk) k = tt
+  instruction_stays (Reaching word walk) k = (k.0, makes_still word k.0 k.1)
+  instruction_stays (Faulting va access) k = (accessed_still va access k.0, ap (λ pages. located access image pages va) numbers ∙ k.1)
 
 -- What an event leaves of every number but e: its record, its state in the monitor, who owns its pages, and the bytes of these and of its
 -- tables, as last written.
@@ -117,13 +140,6 @@ module _ (setup : SetupParts) (e : ℕ) (rec rec' : ℕ → Enclave) (number num
         subst (λ page. bytes' page ≡ bytes page) (sym page_is) (frame.table_bytes f (2 - (at - length image.pages)) other there (omega arith))
   ]
 
-  instruction_other : (f : ℕ) (r : Enclave) (image : List ImagePage) (micro : Micro) → f ≢ e → All (IsOwn owners f) (numbers_of r.pages)
-      → InstructionStands image bytes r micro → InstructionStands image bytes' r micro
-  instruction_other f r image (Fetching walk) other own k = k
-  instruction_other f r image (Reaching word walk) other own k =
-      (k.0, ap (λ pages. fetched pages r.context.pc) (same_pages f image (numbers_of r.pages) other own) ∙ k.1, k.2)
-  instruction_other f r image (Faulting va kind) other own k = elim k [ ]
-
   running_other : (f hart budget count : ℕ) (micro : Micro) → f ≢ e → All (IsOwn owners f) (numbers_of (rec f).pages)
       → IsRunning setup bytes (rec f) (number f) hart budget count micro → IsRunning setup bytes' (rec' f) (number' f) hart budget count micro
   running_other f hart budget count micro other own k =
@@ -134,7 +150,8 @@ module _ (setup : SetupParts) (e : ℕ) (rec rec' : ℕ → Enclave) (number num
         hart_is = k.hart_is;
         within = k.within;
         retired = k.retired;
-        instruction = instruction_other f (rec f) (image_of setup (rec f).image).pages micro other own k.instruction;
+        instruction = instruction_stays (image_of setup (rec f).image).pages bytes bytes' (rec f) (rec f) refl refl
+            (same_pages f (image_of setup (rec f).image).pages (numbers_of (rec f).pages) other own) micro k.instruction;
       }))
 
   putting_other : (f image : ℕ) (pages : List ℕ) (done : ℕ) → f ≢ e → f < setup.enclaves → length (rec f).pages ≡ length (image_of setup image).pages
@@ -168,6 +185,9 @@ module _ (setup : SetupParts) (e : ℕ) (rec rec' : ℕ → Enclave) (number num
     pub line_frame : (hart : ℕ) (line : Option Line) (under : Under) → ((f : ℕ) → number_under_way line under ≡ Some f → f ≢ e)
         → LineUnderWay setup bytes rec number hart line under → LineUnderWay setup bytes' rec' number' hart line under
     line_frame hart line Idle apart k = tt
+    line_frame hart (Some (Load va)) (Seeking walk) apart k = k
+    line_frame hart (Some (Store va word)) (Seeking walk) apart k = k
+    line_frame hart (Some (Unmap va)) (Removing page) apart k = tt
     line_frame hart (Some (Create f image pages)) (Putting done) apart k = putting_there f.0 image pages done k (apart f.0 refl)
     line_frame hart (Some (Run f budget)) (Running micro count) apart k = running_there f.0 hart budget count micro k (apart f.0 refl)
     line_frame hart (Some (Resume f budget)) (Running micro count) apart k = running_there f.0 hart budget count micro k (apart f.0 refl)

@@ -4,32 +4,44 @@ use Rattle.std.specs.Prelude.{IsTrue}
 use Rattle.std.proofs.lemmas.Bool.Decides.{nat_tests}
 use Rattle.pl_base.specs.declared.actor.Actor.{Actor}
 use Rattle.pl_base.specs.declared.actor.Actor.TheVariants as actor_is
+use Rattle.pl_base.specs.declared.address.Va.{Va}
+use Rattle.pl_base.specs.declared.number.HartSet.{HartSet}
 use Rattle.mem_ctl.specs.Laws.{CallsTell}
 use Rattle.mem_ctl.proofs.TellLaws.{calls_tell}
+use Rattle.mon_fence.proofs.Needs.{first_needs}
 use Rattle.pl_history.specs.declared.answer.Answer.TheVariants as answer_is
 use Rattle.pl_history.specs.declared.line.AttackLine.{AttackLine}
 use Rattle.pl_history.specs.declared.line.AttackLine.TheVariants as attack
 use Rattle.pl_history.specs.declared.line.Line.{Line}
-use Rattle.pl_history.specs.declared.line.Line.TheVariants.{Create, Run, Resume, Send, Take, After}
+use Rattle.pl_history.specs.declared.line.Line.TheVariants.{Load, Store, Map, Unmap, Create, Run, Resume, Send, Take, After}
 use Rattle.pl_history.specs.Legal.{AllowedAnswer}
 use Rattle.pl_history.specs.Monitor.{Progress}
 use Rattle.pl_history.specs.Rules.{is_actor, names_known}
 use Rattle.world_attack.proofs.RoomLemmas.{room_stays}
 use Rattle.world_machine.specs.declared.under.Under.{Under}
-use Rattle.world_machine.specs.declared.under.Under.TheVariants.{Idle, Putting, Running}
+use Rattle.world_machine.specs.declared.under.Under.TheVariants.{Idle, Seeking, Removing, Putting, Running}
+use Rattle.world_machine.specs.Acknowledging.{owed}
 use Rattle.world_machine.specs.Answering.{answers, quiet}
+use Rattle.world_machine.specs.HostAccessing.{loads, stores}
+use Rattle.world_machine.specs.HostMapping.{lacked_by}
 use Rattle.world_machine.specs.RecordsAgree.{is_begun}
 use Rattle.world_machine.specs.Standing.{Kept, state_of}
-use Rattle.world_machine.specs.Steps.{AllFit, AnyAnswer, Fits, Step, Turn, actor_turn, attacker_turn, counted, due, hart_turn, moves, replay_from, rests, stepped, turn_of, world_after}
+use Rattle.world_machine.specs.Steps.{AllFit, AnyAnswer, Fits, Step, Turn, ack_turn, actor_turn, attacker_turn, counted, due, hart_turn, moves, replay_from, rests, stepped, turn_of, unmap_turn, world_after}
 use Rattle.world_machine.specs.Worlds.{CollisionData, WorldData, answered_at, attacker_line, hart_line, under_at}
+use Rattle.world_machine.proofs.AckRows.{acknowledged_kept}
 use Rattle.world_machine.proofs.AttackRows.{attacker_waited_kept, attacks_kept}
 use Rattle.world_machine.proofs.BeginRunRows.{begin_run_kept}
 use Rattle.world_machine.proofs.CreateRows.{begin_create_kept}
+use Rattle.world_machine.proofs.HostAccessRows.{accesses_host_kept, begins_access_kept}
+use Rattle.world_machine.proofs.MapRows.{maps_kept}
 use Rattle.world_machine.proofs.PutRows.{put_next_kept}
 use Rattle.world_machine.proofs.QuietRows.{answers_kept}
 use Rattle.world_machine.proofs.RowKept.{beside_kept}
 use Rattle.world_machine.proofs.RunEvents.{runs_kept}
 use Rattle.world_machine.proofs.SetupFacts.{line_names}
+use Rattle.world_machine.proofs.TranslationFrames.{removal_so}
+use Rattle.world_machine.proofs.UnmapEnds.{ends_unmap_kept}
+use Rattle.world_machine.proofs.UnmapRows.{begins_unmap_kept}
 use Rattle.world_machine.proofs.WordRows.{send_kept, take_kept}
 
 -- counting a move changes no part
@@ -58,8 +70,20 @@ module _ (digest_of : List ℕ → List ℕ) (law : (m : List ℕ) → length (d
         let size : length w.enclaves ≡ w.setup.enclaves = k.sizes.numbers in
         omega arith
 
+    -- a removal ends, or waits
+    removal_kept : (va : Va) (page : ℕ) → hart_line w hart ≡ Some (Unmap va) → under_at w.under hart ≡ Removing page → (o : Option HartSet) → lacked_by w hart ≡ o → KeptTurn digest_of (unmap_turn w hart page o)
+    removal_kept va page here so_far None nobody = ends_unmap_kept digest_of room_stays w k none hart below va page here so_far nobody
+    removal_kept va page here so_far (Some harts) lacking = tt
+
     -- one clause a row
     due_kept : (line : Line) (under : Under) → hart_line w hart ≡ Some line → under_at w.under hart ≡ under → KeptTurn digest_of (due digest_of w hart positions line under)
+    due_kept (Load va) Idle here so_far = begins_access_kept digest_of law room_stays w k none hart below va loads here so_far positions
+    due_kept (Load va) (Seeking walk) here so_far = accesses_host_kept digest_of law room_stays w k none hart below va loads here walk so_far positions
+    due_kept (Store va word) Idle here so_far = begins_access_kept digest_of law room_stays w k none hart below va (stores word) here so_far positions
+    due_kept (Store va word) (Seeking walk) here so_far = accesses_host_kept digest_of law room_stays w k none hart below va (stores word) here walk so_far positions
+    due_kept (Map va page perms) Idle here so_far = maps_kept digest_of law room_stays w k none hart below va page perms here so_far positions
+    due_kept (Unmap va) Idle here so_far = begins_unmap_kept digest_of law room_stays w k none hart below va here so_far positions
+    due_kept (Unmap va) (Removing page) here so_far = removal_kept va page here so_far (lacked_by w hart) refl
     due_kept (Create e image pages) Idle here so_far = begin_create_kept digest_of room_stays w k none hart below e image pages here so_far
     due_kept (Create e image pages) (Putting done) here so_far = put_next_kept digest_of tells.page_writes room_stays w k none hart below positions e image pages done here so_far
     due_kept (Run e budget) Idle here so_far = begin_run_kept digest_of room_stays w k none hart below so_far true e budget here
@@ -73,7 +97,7 @@ module _ (digest_of : List ℕ → List ℕ) (law : (m : List ℕ) → length (d
         (λ enough. answers_kept digest_of room_stays w k none hart below (After actor count) answer_is.Ok refl here
         (subst (λ b. AllowedAnswer w.setup (state_of w) (After actor count) b answer_is.Ok) (sym (ap is_begun so_far))
         (subst (λ n. count ≤ n) (sym (ap (λ (p : Progress). p.answered) (k.stands.progress actor))) enough))
-        refl)
+        refl (removal_so digest_of w k hart Idle so_far refl))
     due_kept line under here so_far = tt
 
     hart_kept : (line : Option Line) → hart_line w hart ≡ line → KeptTurn digest_of (hart_turn digest_of w hart positions line)
@@ -88,9 +112,14 @@ module _ (digest_of : List ℕ → List ℕ) (law : (m : List ℕ) → length (d
   attacker_kept (Some (attack.Keep name pa len)) here = attacks_kept digest_of room_stays w k none (attack.Keep name pa len) here refl
   attacker_kept (Some (attack.Back name)) here = attacks_kept digest_of room_stays w k none (attack.Back name) here refl
 
+  -- a fence that needs a hart stands
+  ack_kept : (hart : ℕ) → hart < w.setup.harts → (o : Option ℕ) → owed w.fences hart ≡ o → KeptTurn digest_of (ack_turn w hart o)
+  ack_kept hart below None is = tt
+  ack_kept hart below (Some requester) is = acknowledged_kept digest_of room_stays w k none hart below requester (first_needs w.fences hart requester is).0
+
   actor_kept : (actor : Actor) (positions : List ℕ) → IsTrue (is_actor w.setup.harts actor) → KeptTurn digest_of (actor_turn digest_of w actor positions)
   actor_kept (actor_is.Hart h) positions there = hart_kept h.0 (grind (arith, nat_tests)) positions (hart_line w h.0) refl
-  actor_kept (actor_is.Ack h) positions there = tt
+  actor_kept (actor_is.Ack h) positions there = ack_kept h.0 (grind (arith, nat_tests)) (owed w.fences h.0) refl
   actor_kept actor_is.Attacker positions there = attacker_kept (attacker_line w) refl
 
 after_kept : (digest_of : List ℕ → List ℕ) (w : WorldData) (turn : Turn) → Kept digest_of w → KeptTurn digest_of turn → Kept digest_of (world_after w turn)

@@ -1,7 +1,8 @@
 -- What an instruction comes to, told by its record alone: it retires, stops the run, ends the image, or seeks its data.
 use Rattle.std.proofs.Common.{◌≡◌, ℕ, ◌+◌, ◌==◌, Bool, true, false, cond, eqb, List, [], ◌∷◌, ◌++◌, Option, Some, None, refl, ap, sym, subst}
-use Rattle.std.specs.Prelude.{if◌then◌else◌, IsTrue}
+use Rattle.std.specs.Prelude.{if◌then◌else◌}
 use Rattle.std.proofs.lemmas.Bool.{eqb-true}
+use Rattle.pl_base.specs.declared.access.Kind.{Kind}
 use Rattle.pl_base.specs.declared.access.Kind.TheVariants as kind
 use Rattle.pl_base.specs.declared.state.Why.{Why}
 use Rattle.pl_base.specs.declared.state.Why.TheVariants as why_is
@@ -20,7 +21,7 @@ use Rattle.pl_history.specs.Monitor.{flat_image}
 use Rattle.pl_history.specs.Running.{obstacle}
 use Rattle.world_machine.specs.declared.under.Under.TheVariants.{Running}
 use Rattle.world_machine.specs.Answering.{goes_on}
-use Rattle.world_machine.specs.LinesUnderWay.{has_data}
+use Rattle.world_machine.specs.LinesUnderWay.{access_of}
 use Rattle.world_machine.specs.Pages.{fault_cause, located, numbers_of}
 use Rattle.world_machine.specs.Running.{RunNow, acts, calls, leaves, receives, retired_with, retires, sends}
 use Rattle.world_machine.specs.Worlds.{WorldData}
@@ -98,7 +99,7 @@ abbrev pub GoesBy : Image → List ℕ → Enclave → Act → Way → Type 0
 GoesBy image memory r act (goes_on_with now) = Retires image.pages (page_bytes memory) (page_bytes memory) r now
 GoesBy image memory r act (stops why) = Stops image memory r why
 GoesBy image memory r act (ends code) = alone (flat_image image) r.sent (r.retired + 1) ≡ Some (record (flat_of (page_bytes memory) image.pages r) { status = ended code })
-GoesBy image memory r act seeks = IsTrue (has_data act)
+GoesBy image memory r act seeks = (access : Kind × ℕ) × (access_of act ≡ Some access)
 
 module _ (image : Image) (memory : List ℕ) (r : Enclave) (live : IsLive image memory r) (word : ℕ) where
   abbrev Fetched : Act → Type 0
@@ -126,8 +127,8 @@ module _ (image : Image) (memory : List ℕ) (r : Enclave) (live : IsLive image 
 
   pub goes_by : (act : Act) → Fetched act → GoesBy image memory r act (way_of r act)
   goes_by (Set context) is = live_set image memory r live word context is
-  goes_by (Load address width is_signed rd) is = refl
-  goes_by (Store address width value) is = refl
+  goes_by (Load address width is_signed rd) is = ((kind.Load, address), refl)
+  goes_by (Store address width value) is = ((kind.Store, address), refl)
   goes_by (Call number value) is = call_goes number value is (eqb number 1) (eqb number 2) (eqb number 3) refl refl refl
   goes_by (Trap cause value) is = ap (obstacle false) (trap_traps image.pages (page_bytes memory) r word cause value is)
 

@@ -1,7 +1,9 @@
 -- Each turn that moves leaves less to do, row by row.
-use Rattle.std.proofs.Common.{◌≡◌, ℕ, ◌+◌, ◌-◌, ◌*◌, ◌%◌, ◌<◌, ◌≤◌, ◌==◌, Bool, true, false, if◌then◌else◌, List, length, Option, Some, None, refl, sym, ap, subst, arith}
-use Rattle.std.specs.Prelude.{slice_set, IsTrue}
-use Rattle.std.proofs.lemmas.Bool.{false≢true}
+use Rattle.std.proofs.Common.{◌≡◌, ℕ, ◌+◌, ◌-◌, ◌*◌, ◌%◌, ◌<◌, ◌==◌, Bool, true, false, if◌then◌else◌, List, length, Option, Some, None, refl, sym, ap, subst, arith}
+use Rattle.std.specs.Prelude.{slice_set, option_map}
+use Rattle.pl_base.specs.declared.access.Kind.{Kind}
+use Rattle.pl_base.specs.declared.access.Kind.TheVariants as kind
+use Rattle.pl_base.specs.declared.address.Pa.{Pa}
 use Rattle.pl_base.specs.declared.number.EncNo.{EncNo}
 use Rattle.pl_base.specs.declared.place.Place.{Place}
 use Rattle.pl_base.specs.declared.refusal.No.{No}
@@ -10,14 +12,16 @@ use Rattle.mem_ctl.specs.Calls.{read_word_of, write_part_of}
 use Rattle.mem_ctl.specs.Data.{After, Again, Collision, CtlData, Fault, Outcome, Value, going}
 use Rattle.mon_enclave.specs.declared.enclave.Enclave.{Enclave}
 use Rattle.mon_enclave.specs.Records.{enclave_at, has_room, received_word}
-use Rattle.mon_image.specs.declared.page.ImagePage.{ImagePage}
 use Rattle.mon_life.specs.Putting.{CreatePut, create_put, steps_of}
 use Rattle.rv_alone.specs.declared.step.Act.{Act}
 use Rattle.rv_alone.specs.declared.step.Act.TheVariants.{Set, Load, Store, Call, Trap}
 use Rattle.rv_alone.specs.Effect.{act_of, advanced, loaded}
 use Rattle.rv_hart.specs.declared.walks.Micro.{Micro}
 use Rattle.rv_hart.specs.declared.walks.Micro.TheVariants.{Fetching, Reaching, Faulting}
+use Rattle.rv_hart.specs.declared.walks.Walk.{Walk}
 use Rattle.rv_hart.specs.declared.walks.Walk.TheVariants.{Start}
+use Rattle.rv_hart.specs.Learning.{learned, tlb_after}
+use Rattle.rv_tlb.specs.declared.tlb.TlbEntry.{TlbEntry}
 use Rattle.pl_history.specs.declared.answer.Answer.{Answer}
 use Rattle.pl_history.specs.declared.answer.Answer.TheVariants as answer_is
 use Rattle.pl_history.specs.declared.line.Line.{Line}
@@ -25,58 +29,64 @@ use Rattle.pl_history.specs.declared.line.Line.TheVariants as line_is
 use Rattle.world_machine.specs.declared.under.Under.{Under}
 use Rattle.world_machine.specs.declared.under.Under.TheVariants.{Idle, Putting, Running}
 use Rattle.world_machine.specs.Answering.{answers, decided, goes_on}
-use Rattle.world_machine.specs.LinesUnderWay.{InstructionStands, IsPutting, IsRunning, LineUnderWay, has_data}
+use Rattle.world_machine.specs.LinesUnderWay.{IsPutting, IsRunning, LineUnderWay, access_of}
 use Rattle.world_machine.specs.Making.{begins_unless, image_of}
 use Rattle.world_machine.specs.Pages.{part_of_word, word_offset}
-use Rattle.world_machine.specs.Running.{RunNow, acts, calls, faults, fetched_in, loads_in, reaches, receives, retired_with, retires, run_event, stores_in}
-use Rattle.world_machine.specs.Runs.{events_made, line_left, remaining}
+use Rattle.world_machine.specs.Running.{RunNow, acts, calls, faults, fetched_in, loads_in, reaches, receives, retired_with, retires, run_event, run_learns, run_request, run_translates, stores_in}
+use Rattle.world_machine.specs.Runs.{events_made, line_left, remaining, words_read}
 use Rattle.world_machine.specs.Standing.{Kept, state_of, written_page}
 use Rattle.world_machine.specs.Talking.{changes_unless}
-use Rattle.world_machine.specs.Worlds.{Event, WorldData, answered_at, attacker_line, hart_line, under_at}
+use Rattle.world_machine.specs.Translating.{Request, number_view, offset_at, page_at, reads_table}
+use Rattle.world_machine.specs.TranslationsAgree.{IsFresh, WalkingStands, walking, walking_of}
+use Rattle.world_machine.specs.Worlds.{CollisionData, Event, WorldData, answered_at, hart_line, tlb_at, under_at, with_tlb}
 use Rattle.world_machine.proofs.Lessens.{answered_less, collision_less, goes_less, some_cost}
 use Rattle.world_machine.proofs.NeverAgain.{NeverAgain, read_never, step_never, write_never}
 use Rattle.world_machine.proofs.RunMoves.{is_running, run_line}
+use Rattle.world_machine.proofs.WordsRead.{IsBelowRoot, at_most_seven, at_most_three, by_learned, by_sought, stands_below}
 
 -- what an access decides
-decided_less : {A : Type 0} (w left : WorldData) (then_gives : A → WorldData) (fault_gives : Place → WorldData) (o : Outcome A) → NeverAgain o
+pub decided_less : {A : Type 0} (w left : WorldData) (then_gives : A → WorldData) (fault_gives : Place → WorldData) (o : Outcome A) → NeverAgain o
     → ((a : A) → remaining (then_gives a) < remaining w) → ((place : Place) → remaining (fault_gives place) < remaining w)
-    → ((v : WorldData) (c : Rattle.world_machine.specs.Worlds.CollisionData) → v.collision ≡ Some c → remaining v < remaining w) → remaining (decided left then_gives fault_gives o) < remaining w
+    → ((v : WorldData) (c : CollisionData) → v.collision ≡ Some c → remaining v < remaining w) → remaining (decided left then_gives fault_gives o) < remaining w
 decided_less w left then_gives fault_gives (Value a) never value fault clash = value a
 decided_less w left then_gives fault_gives (Fault place) never value fault clash = fault place
 decided_less w left then_gives fault_gives (Collision place held written) never value fault clash = clash _ (record { place = place; held = held; written = written }) refl
 decided_less w left then_gives fault_gives (Again taken root) never value fault clash = absurd never
 
-either_less : (w : WorldData) (b : Bool) (x y : WorldData) → remaining x < remaining w → remaining y < remaining w → remaining (if b then x else y) < remaining w
+pub either_less : (w : WorldData) (b : Bool) (x y : WorldData) → remaining x < remaining w → remaining y < remaining w → remaining (if b then x else y) < remaining w
 either_less w true x y p q = p
 either_less w false x y p q = q
 
-run_cost : (setup : _) (first : Bool) (e : EncNo) (budget count : ℕ) (micro : Micro) → line_left setup (Some (run_line first e budget)) (Running micro count) ≡ 2 * (budget - count) - events_made micro
+run_cost : (setup : _) (first : Bool) (e : EncNo) (budget count : ℕ) (micro : Micro) → line_left setup (Some (run_line first e budget)) (Running micro count) ≡ 8 * (budget - count) - events_made micro
 run_cost setup true e budget count micro = refl
 run_cost setup false e budget count micro = refl
 
-few_made : (micro : Micro) → events_made micro ≤ 1
-few_made (Fetching walk) = omega arith
-few_made (Reaching word walk) = omega arith
-few_made (Faulting va kind) = omega arith
+run_walks : (ctl : CtlData) (Fresh : TlbEntry → Type 0) (tables : ℕ) (record_of : ℕ → Enclave) (first : Bool) (e : EncNo) (budget count : ℕ) (micro : Micro)
+    → WalkingStands ctl Fresh (walking tables record_of (Some (run_line first e budget)) (Running micro count)) → WalkingStands ctl Fresh (walking_of tables e.0 (record_of e.0) micro)
+run_walks ctl Fresh tables record_of true e budget count micro k = k
+run_walks ctl Fresh tables record_of false e budget count micro k = k
 
 module _ (digest_of : List ℕ → List ℕ) (w : WorldData) (k : Kept digest_of w) (none : w.collision ≡ None) (hart : ℕ) (below : hart < w.setup.harts) where
+  abbrev Fresh : TlbEntry → Type 0
+  Fresh = IsFresh w.setup (state_of w) w.fences hart
+
   -- ---- lines that haven't begun
 
   module _ (line : Line) (here : hart_line w hart ≡ Some line) (idle : under_at w.under hart ≡ Idle) where
-    pub answer_less : (v : WorldData) → v.setup ≡ w.setup → v.collision ≡ None → v.under ≡ slice_set w.under hart Idle → v.answered ≡ slice_set w.answered hart (answered_at w.answered hart + 1) → remaining v < remaining w
+    pub answer_less : (v : WorldData) → v.setup ≡ w.setup → v.collision ≡ None → v.fences ≡ w.fences → v.under ≡ slice_set w.under hart Idle → v.answered ≡ slice_set w.answered hart (answered_at w.answered hart + 1) → remaining v < remaining w
     answer_less = answered_less digest_of w k none hart below line Idle here idle (some_cost w.setup line)
 
-    pub begins_less : (o : Option No) (v : WorldData) (u : Under) → v.setup ≡ w.setup → v.collision ≡ None → v.under ≡ w.under → v.answered ≡ w.answered
+    pub begins_less : (o : Option No) (v : WorldData) (u : Under) → v.setup ≡ w.setup → v.collision ≡ None → v.fences ≡ w.fences → v.under ≡ w.under → v.answered ≡ w.answered
         → line_left w.setup (Some line) u < line_left w.setup (Some line) Idle → remaining (begins_unless o v hart u) < remaining w
-    begins_less (Some cause) v u setup free under answered less =
-        answer_less (begins_unless (Some cause) v hart u) setup free (ap (λ xs. slice_set xs hart Idle) under)
+    begins_less (Some cause) v u setup free fences under answered less =
+        answer_less (begins_unless (Some cause) v hart u) setup free fences (ap (λ xs. slice_set xs hart Idle) under)
         (ap (λ xs. slice_set xs hart (answered_at xs hart + 1)) answered)
-    begins_less None v u setup free under answered less =
-        goes_less digest_of w k none hart below line Idle here idle (some_cost w.setup line) (begins_unless None v hart u) u setup free (ap (λ xs. slice_set xs hart u) under) answered less
+    begins_less None v u setup free fences under answered less =
+        goes_less digest_of w k none hart below line Idle here idle (begins_unless None v hart u) u setup free fences (ap (λ xs. slice_set xs hart u) under) answered less
 
     pub changes_less : (o : Option No) (e : ℕ) (r : Enclave) (now : Answer) → remaining (changes_unless o w hart e r now) < remaining w
-    changes_less (Some cause) e r now = answer_less _ refl none refl refl
-    changes_less None e r now = answer_less _ refl none refl refl
+    changes_less (Some cause) e r now = answer_less _ refl none refl refl refl
+    changes_less None e r now = answer_less _ refl none refl refl refl
 
   -- ---- a number that is being made
 
@@ -101,9 +111,9 @@ module _ (digest_of : List ℕ → List ℕ) (w : WorldData) (k : Kept digest_of
         decided_less w left (λ last. if last then answers left hart answer_is.Ok else goes_on left hart (Putting (done + 1))) (λ place. answers left hart (answer_is.No (refused.Fault place))) step.put.outcome
         (step_never digest_of w.setup.tables e.0 (image_of w.setup image) false done w.enclaves (going w.ctl positions))
         (λ last. either_less w last (answers left hart answer_is.Ok) (goes_on left hart (Putting (done + 1)))
-        (answer_less (answers left hart answer_is.Ok) refl none refl refl)
-        (goes_less digest_of w k none hart below (line_is.Create e image pages) (Putting done) here so_far some_left (goes_on left hart (Putting (done + 1))) (Putting (done + 1)) refl none refl refl (omega arith)))
-        (λ place. answer_less (answers left hart (answer_is.No (refused.Fault place))) refl none refl refl)
+        (answer_less (answers left hart answer_is.Ok) refl none refl refl refl)
+        (goes_less digest_of w k none hart below (line_is.Create e image pages) (Putting done) here so_far (goes_on left hart (Putting (done + 1))) (Putting (done + 1)) refl none refl refl refl (omega arith)))
+        (λ place. answer_less (answers left hart (answer_is.No (refused.Fault place))) refl none refl refl refl)
         (collision_less digest_of w k none hart below (line_is.Create e image pages) (Putting done) here so_far some_left)
 
   -- ---- a run under way
@@ -121,19 +131,26 @@ module _ (digest_of : List ℕ → List ℕ) (w : WorldData) (k : Kept digest_of
         (subst (λ l. LineUnderWay w.setup (written_page w) (enclave_at w.enclaves) (state_of w).number hart l (under_at w.under hart)) here (k.stands.lines hart)))
 
     run_left : 0 < line_left w.setup (Some (run_line first e budget)) (Running micro count)
-    run_left = let within : count < budget = running.within in let is = run_cost w.setup first e budget count micro in let m = few_made micro in omega arith
+    run_left = let within : count < budget = running.within in let is = run_cost w.setup first e budget count micro in let m = at_most_seven micro in omega arith
 
-    ends_less : (v : WorldData) → v.setup ≡ w.setup → v.collision ≡ None → v.under ≡ slice_set w.under hart Idle → v.answered ≡ slice_set w.answered hart (answered_at w.answered hart + 1) → remaining v < remaining w
+    ends_less : (v : WorldData) → v.setup ≡ w.setup → v.collision ≡ None → v.fences ≡ w.fences → v.under ≡ slice_set w.under hart Idle
+        → v.answered ≡ slice_set w.answered hart (answered_at w.answered hart + 1) → remaining v < remaining w
     ends_less = answered_less digest_of w k none hart below (run_line first e budget) (Running micro count) here so_far run_left
 
-    on_less : (v : WorldData) (micro' : Micro) (count' : ℕ) → v.setup ≡ w.setup → v.collision ≡ None → v.under ≡ slice_set w.under hart (Running micro' count') → v.answered ≡ w.answered
-        → 2 * (budget - count') - events_made micro' < 2 * (budget - count) - events_made micro → remaining v < remaining w
-    on_less v micro' count' setup free under answered less =
-        goes_less digest_of w k none hart below (run_line first e budget) (Running micro count) here so_far run_left v (Running micro' count') setup free under answered
+    on_less : (v : WorldData) (micro' : Micro) (count' : ℕ) → v.setup ≡ w.setup → v.collision ≡ None → v.fences ≡ w.fences → v.under ≡ slice_set w.under hart (Running micro' count')
+        → v.answered ≡ w.answered → 8 * (budget - count') - events_made micro' < 8 * (budget - count) - events_made micro → remaining v < remaining w
+    on_less v micro' count' setup free fences under answered less =
+        goes_less digest_of w k none hart below (run_line first e budget) (Running micro count) here so_far v (Running micro' count') setup free fences under answered
         (subst (λ n. n < line_left w.setup (Some (run_line first e budget)) (Running micro count)) (sym (run_cost w.setup first e budget count' micro'))
-        (subst (λ n. 2 * (budget - count') - events_made micro' < n) (sym (run_cost w.setup first e budget count micro)) less))
+        (subst (λ n. 8 * (budget - count') - events_made micro' < n) (sym (run_cost w.setup first e budget count micro)) less))
 
-    clash_less : (v : WorldData) (c : Rattle.world_machine.specs.Worlds.CollisionData) → v.collision ≡ Some c → remaining v < remaining w
+    -- the instruction goes on
+    further_less : (v : WorldData) (micro' : Micro) → v.setup ≡ w.setup → v.collision ≡ None → v.fences ≡ w.fences → v.under ≡ slice_set w.under hart (Running micro' count)
+        → v.answered ≡ w.answered → events_made micro < events_made micro' → remaining v < remaining w
+    further_less v micro' setup free fences under answered more =
+        on_less v micro' count setup free fences under answered (let within : count < budget = running.within in let m = at_most_seven micro' in omega arith)
+
+    clash_less : (v : WorldData) (c : CollisionData) → v.collision ≡ Some c → remaining v < remaining w
     clash_less = collision_less digest_of w k none hart below (run_line first e budget) (Running micro count) here so_far run_left
 
     -- in a world that an access left
@@ -142,65 +159,116 @@ module _ (digest_of : List ℕ → List ℕ) (w : WorldData) (k : Kept digest_of
       left_by = record w { ctl = ctl }
 
       retire_less : (now : Enclave) → remaining (retires left_by run now) < remaining w
-      retire_less now = either_less w (count + 1 == budget) _ _ (ends_less _ refl none refl refl)
-          (on_less _ (Fetching Start) (count + 1) refl none refl refl (let within : count < budget = running.within in let m = few_made micro in omega arith))
+      retire_less now = either_less w (count + 1 == budget) _ _ (ends_less _ refl none refl refl refl)
+          (on_less _ (Fetching Start) (count + 1) refl none refl refl refl (let within : count < budget = running.within in let m = at_most_seven micro in omega arith))
 
       receive_less : (o : Option ℕ) → remaining (receives left_by run r o) < remaining w
-      receive_less None = ends_less _ refl none refl refl
+      receive_less None = ends_less _ refl none refl refl refl
       receive_less (Some word) = retire_less _
 
       call_less : (number value : ℕ) → remaining (calls left_by run r number value) < remaining w
       call_less number value =
-          either_less w (number == 1) _ _ (ends_less _ refl none refl refl)
+          either_less w (number == 1) _ _ (ends_less _ refl none refl refl refl)
           (either_less w (number == 2) _ _ (receive_less (received_word r))
-          (either_less w (number == 3) _ _ (either_less w (has_room r) _ _ (retire_less _) (ends_less _ refl none refl refl)) (ends_less _ refl none refl refl)))
+          (either_less w (number == 3) _ _ (either_less w (has_room r) _ _ (retire_less _) (ends_less _ refl none refl refl refl)) (ends_less _ refl none refl refl refl)))
 
-      act_less : events_made micro ≡ 0 → (word : ℕ) (act : Act) → remaining (acts left_by run r word act) < remaining w
+      act_less : events_made micro < 4 → (word : ℕ) (act : Act) → remaining (acts left_by run r word act) < remaining w
       act_less first_half word (Set context) = retire_less _
-      act_less first_half word (Load address width is_signed rd) = on_less _ (Reaching word Start) count refl none refl refl (let within : count < budget = running.within in let m : events_made micro ≡ 0 = first_half in omega arith)
-      act_less first_half word (Store address width value) = on_less _ (Reaching word Start) count refl none refl refl (let within : count < budget = running.within in let m : events_made micro ≡ 0 = first_half in omega arith)
+      act_less first_half word (Load address width is_signed rd) = further_less _ (Reaching word Start) refl none refl refl refl (omega arith)
+      act_less first_half word (Store address width value) = further_less _ (Reaching word Start) refl none refl refl refl (omega arith)
       act_less first_half word (Call number value) = call_less number value
-      act_less first_half word (Trap cause value) = ends_less _ refl none refl refl
+      act_less first_half word (Trap cause value) = ends_less _ refl none refl refl refl
 
-    fetch_less : events_made micro ≡ 0 → (o : Option ℕ) → remaining (fetched_in digest_of w run r positions o).world < remaining w
-    fetch_less first_half None = ends_less _ refl none refl refl
+    fetch_less : events_made micro < 4 → (o : Option ℕ) → remaining (fetched_in digest_of w run r positions o).world < remaining w
+    fetch_less first_half None = ends_less _ refl none refl refl refl
     fetch_less first_half (Some page) =
         let access : After ℕ = read_word_of digest_of page (word_offset r.context.pc) (going w.ctl positions) in
         decided_less w (record w { ctl = access.after.ctl })
         (λ eight. acts (record w { ctl = access.after.ctl }) run r (part_of_word eight r.context.pc 4) (act_of r.context (part_of_word eight r.context.pc 4)))
         (faults run r (record w { ctl = access.after.ctl })) access.outcome (read_never digest_of page (word_offset r.context.pc) (going w.ctl positions))
         (λ eight. act_less access.after.ctl first_half (part_of_word eight r.context.pc 4) (act_of r.context (part_of_word eight r.context.pc 4)))
-        (λ place. ends_less _ refl none refl refl) clash_less
+        (λ place. ends_less _ refl none refl refl refl) clash_less
 
     load_less : (address width : ℕ) (is_signed : Bool) (rd : ℕ) (o : Option ℕ) → remaining (loads_in digest_of w run r positions address width is_signed rd o).world < remaining w
-    load_less address width is_signed rd None = ends_less _ refl none refl refl
+    load_less address width is_signed rd None = ends_less _ refl none refl refl refl
     load_less address width is_signed rd (Some page) =
         let access : After ℕ = read_word_of digest_of page (word_offset address) (going w.ctl positions) in
         decided_less w (record w { ctl = access.after.ctl })
         (λ eight. retires (record w { ctl = access.after.ctl }) run (retired_with r (loaded r.context rd width is_signed (part_of_word eight address width))))
         (faults run r (record w { ctl = access.after.ctl })) access.outcome (read_never digest_of page (word_offset address) (going w.ctl positions))
         (λ eight. retire_less access.after.ctl (retired_with r (loaded r.context rd width is_signed (part_of_word eight address width))))
-        (λ place. ends_less _ refl none refl refl) clash_less
+        (λ place. ends_less _ refl none refl refl refl) clash_less
 
     store_less : (address width value : ℕ) (o : Option ℕ) → remaining (stores_in digest_of w run r positions address width value o).world < remaining w
-    store_less address width value None = ends_less _ refl none refl refl
+    store_less address width value None = ends_less _ refl none refl refl refl
     store_less address width value (Some page) =
         let access : After (Unit {0}) = write_part_of digest_of page (address % 4096) width value (going w.ctl positions) in
         decided_less w (record w { ctl = access.after.ctl }) (λ done. retires (record w { ctl = access.after.ctl }) run (retired_with r (advanced r.context)))
         (faults run r (record w { ctl = access.after.ctl })) access.outcome (write_never digest_of page (address % 4096) width value (going w.ctl positions))
         (λ done. retire_less access.after.ctl (retired_with r (advanced r.context)))
-        (λ place. ends_less _ refl none refl refl) clash_less
+        (λ place. ends_less _ refl none refl refl refl) clash_less
 
-    reach_less : (image : List ImagePage) (act : Act) → IsTrue (has_data act) → remaining (reaches digest_of w run r image positions act).world < remaining w
-    reach_less image (Load address width is_signed rd) has = load_less address width is_signed rd _
-    reach_less image (Store address width value) has = store_less address width value _
-    reach_less image (Set context) has = absurd (false≢true has)
-    reach_less image (Call number value) has = absurd (false≢true has)
-    reach_less image (Trap cause value) has = absurd (false≢true has)
+    -- A word of a table that is read leaves the instruction further: with a walk that has read more, or without a page.
+    module _ (on : Walk → Micro) (walk : Walk) (va : ℕ) (access : Kind) (stands : IsBelowRoot walk)
+        (further : (next : Walk) → words_read walk < words_read next → events_made micro < events_made (on next)) (early : words_read walk < 3 → events_made micro < 7) where
+      table_less : words_read walk < 3 → (pa : Pa)
+          → remaining (reads_table digest_of w (run_request w run va access) positions walk (run_learns run on va access) (faults run r) pa).world < remaining w
+      table_less asks pa =
+          let request : Request = run_request w run va access in
+          let read : After ℕ = read_word_of digest_of (page_at pa) (offset_at pa) (going w.ctl positions) in
+          let left : WorldData = record w { ctl = read.after.ctl } in
+          decided_less w left
+          (λ word. run_learns run on va access (with_tlb left hart (tlb_after walk word request.va access request.view (tlb_at w.tlbs hart))) (learned walk word request.va access request.view))
+          (faults run r left) read.outcome (read_never digest_of (page_at pa) (offset_at pa) (going w.ctl positions))
+          (λ word. by_learned (λ result. remaining (run_learns run on va access (with_tlb left hart (tlb_after walk word request.va access request.view (tlb_at w.tlbs hart))) result) < remaining w)
+          access walk stands asks
+          (λ next more. further_less _ (on next) refl none refl refl refl (further next more))
+          (λ no_page. further_less _ (Faulting va access) refl none refl refl refl (early asks))
+          word request.va request.view)
+          (λ place. ends_less _ refl none refl refl refl) clash_less
+
+      translates_less : (reach : Option ℕ → Event) → ((o : Option ℕ) → remaining (reach o).world < remaining w)
+          → remaining (run_translates digest_of w run r positions on walk va access reach).world < remaining w
+      translates_less reach each =
+          by_sought (λ event. remaining event.world < remaining w) w (run_request w run va access)
+          (reads_table digest_of w (run_request w run va access) positions walk (run_learns run on va access) (faults run r)) (λ pa. reach (option_map page_at pa))
+          walk table_less (λ pa. each (option_map page_at pa))
+
+    -- data is sought by an instruction that loads or stores alone
+    module _ (word : ℕ) (walk : Walk) (made : events_made micro ≡ 4 + words_read walk) where
+      reach_less : (act : Act) (access : Kind × ℕ) → access_of act ≡ Some access
+          → WalkingStands w.ctl Fresh
+          (option_map (λ (a : Kind × ℕ). record { view = number_view w.setup.tables e.0; va = record { 0 = a.1 }; walk = walk }) (access_of act))
+          → remaining (reaches digest_of w run r positions word walk act).world < remaining w
+      reach_less (Load address width is_signed rd) access is stands =
+          translates_less (Reaching word) walk address kind.Load (stands_below w.ctl Fresh (number_view w.setup.tables e.0) (record { 0 = address }) walk stands) (λ next more. omega arith) (λ asks. omega arith)
+          (loads_in digest_of w run r positions address width is_signed rd) (load_less address width is_signed rd)
+      reach_less (Store address width value) access is stands =
+          translates_less (Reaching word) walk address kind.Store (stands_below w.ctl Fresh (number_view w.setup.tables e.0) (record { 0 = address }) walk stands) (λ next more. omega arith) (λ asks. omega arith)
+          (stores_in digest_of w run r positions address width value) (store_less address width value)
+      reach_less (Set context) access is stands = cc
+      reach_less (Call number value) access is stands = cc
+      reach_less (Trap cause value) access is stands = cc
+
+  -- the walk of a run stands
+  walk_stands : (first : Bool) (e : EncNo) (budget count : ℕ) (micro : Micro) → hart_line w hart ≡ Some (run_line first e budget) → under_at w.under hart ≡ Running micro count
+      → WalkingStands w.ctl Fresh (walking_of w.setup.tables e.0 (enclave_at w.enclaves e.0) micro)
+  walk_stands first e budget count micro here so_far =
+      run_walks w.ctl Fresh w.setup.tables (enclave_at w.enclaves) first e budget count micro
+      (subst (λ u. WalkingStands w.ctl Fresh (walking w.setup.tables (enclave_at w.enclaves) (Some (run_line first e budget)) u)) so_far
+      (subst (λ l. WalkingStands w.ctl Fresh (walking w.setup.tables (enclave_at w.enclaves) l (under_at w.under hart))) here
+      (k.stands.translations.fresh.walks hart)))
 
   pub run_less : (first : Bool) (e : EncNo) (budget count : ℕ) (micro : Micro) → hart_line w hart ≡ Some (run_line first e budget) → under_at w.under hart ≡ Running micro count → (positions : List ℕ)
-      → (image : List ImagePage) → InstructionStands image (written_page w) (enclave_at w.enclaves e.0) micro
-      → remaining (run_event digest_of w (record { hart = hart; e = e.0; budget = budget; count = count }) (enclave_at w.enclaves e.0) image positions micro).world < remaining w
-  run_less first e budget count (Fetching walk) here so_far positions image stands = fetch_less first e budget count (Fetching walk) here so_far positions refl _
-  run_less first e budget count (Reaching word walk) here so_far positions image stands = reach_less first e budget count (Reaching word walk) here so_far positions image (act_of (enclave_at w.enclaves e.0).context word) stands.2
-  run_less first e budget count (Faulting va access) here so_far positions image stands = absurd stands
+      → remaining (run_event digest_of w (record { hart = hart; e = e.0; budget = budget; count = count }) (enclave_at w.enclaves e.0) positions micro).world < remaining w
+  run_less first e budget count (Fetching walk) here so_far positions =
+      translates_less first e budget count (Fetching walk) here so_far positions Fetching walk (enclave_at w.enclaves e.0).context.pc kind.Fetch
+      (stands_below w.ctl Fresh (number_view w.setup.tables e.0) (record { 0 = (enclave_at w.enclaves e.0).context.pc }) walk
+      (walk_stands first e budget count (Fetching walk) here so_far)) (λ next more. more) (λ asks. omega arith)
+      (fetched_in digest_of w (record { hart = hart; e = e.0; budget = budget; count = count }) (enclave_at w.enclaves e.0) positions)
+      (fetch_less first e budget count (Fetching walk) here so_far positions (let few = at_most_three walk in omega arith))
+  run_less first e budget count (Reaching word walk) here so_far positions =
+      let stands = (running first e budget count (Reaching word walk) here so_far positions).instruction in
+      reach_less first e budget count (Reaching word walk) here so_far positions word walk refl (act_of (enclave_at w.enclaves e.0).context word) stands.0 stands.1.access_is
+      (walk_stands first e budget count (Reaching word walk) here so_far)
+  run_less first e budget count (Faulting va access) here so_far positions = ends_less first e budget count (Faulting va access) here so_far positions _ refl none refl refl refl

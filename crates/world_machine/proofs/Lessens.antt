@@ -1,31 +1,33 @@
 -- Each event leaves less to do.
-use Rattle.std.proofs.Common.{◌≡◌, ◌≢◌, ℕ, zero, suc, ◌+◌, ◌-◌, ◌<◌, ◌≤◌, eqb, if◌then◌else◌, List, [], ◌∷◌, length, drop, slice_get, sum_by, Some, None, is_some, refl, sym, ap, ◌∙◌, subst, arith, inl, inr}
+use Rattle.std.proofs.Common.{◌≡◌, ◌≢◌, ℕ, zero, suc, ◌+◌, ◌-◌, ◌<◌, ◌≤◌, if◌then◌else◌, List, [], ◌∷◌, length, drop, slice_get, sum_by, Some, None, is_some, refl, sym, ap, ◌∙◌, subst, arith}
 use Rattle.std.specs.Prelude.{slice_set}
 use Rattle.std.specs.List.{range_with_len}
-use Rattle.std.proofs.lemmas.Bool.{cases_Bool, eqb-true, eqb-false}
+use Rattle.std.proofs.lemmas.List.Sums.{sum_by-cons}
 use Rattle.pl_history.specs.declared.line.Line.{Line}
 use Rattle.pl_history.specs.declared.line.Line.TheVariants as line_is
 use Rattle.pl_history.specs.declared.setup.SetupParts.{SetupParts}
 use Rattle.pl_history.specs.Monitor.{script_of}
-use Rattle.world_attack.proofs.RoomLemmas.{sum_drops, term_of_sum}
+use Rattle.world_attack.proofs.RoomLemmas.{term_of_sum}
 use Rattle.world_machine.specs.declared.under.Under.{Under}
 use Rattle.world_machine.specs.declared.under.Under.TheVariants.{Idle}
-use Rattle.world_machine.specs.Runs.{attacker_left, cost_of, hart_left, line_left, remaining}
+use Rattle.world_machine.specs.Runs.{attacker_left, cost_of, fences_left, hart_left, line_left, remaining}
 use Rattle.world_machine.specs.Standing.{Kept}
-use Rattle.world_machine.specs.Worlds.{WorldData, answered_at, hart_line, under_at}
+use Rattle.world_machine.specs.Worlds.{CollisionData, WorldData, answered_at, hart_line, under_at}
+use Rattle.world_machine.proofs.FencesLeft.{needs_left}
 use Rattle.world_machine.proofs.Lists.{ChangedAt, changed_none, changed_set}
+use Rattle.world_machine.proofs.Sums.{sum_changes}
 
 -- a line's cost, and that of the lines after it
 costs_at : (setup : SetupParts) (lines : List Line) (i : ℕ) → line_left setup (slice_get lines i) Idle + sum_by (cost_of setup) (drop (suc i) lines) ≡ sum_by (cost_of setup) (drop i lines)
 costs_at setup [] zero = refl
 costs_at setup [] (suc i) = refl
-costs_at setup (line ∷ lines) zero = sum_cons
-  where
-    sum_cons : cost_of setup line + sum_by (cost_of setup) lines ≡ sum_by (cost_of setup) (line ∷ lines)
-    sum_cons = sym (Rattle.std.proofs.lemmas.List.Sums.sum_by-cons (cost_of setup) line lines)
+costs_at setup (line ∷ lines) zero = sym (sum_by-cons (cost_of setup) line lines)
 costs_at setup (line ∷ lines) (suc i) = costs_at setup lines i
 
 pub some_cost : (setup : SetupParts) (line : Line) → 0 < cost_of setup line
+some_cost setup (line_is.Load va) = omega arith
+some_cost setup (line_is.Store va word) = omega arith
+some_cost setup (line_is.Unmap va) = omega arith
 some_cost setup (line_is.Create e image pages) = omega arith
 some_cost setup (line_is.Run e budget) = omega arith
 some_cost setup (line_is.Resume e budget) = omega arith
@@ -35,14 +37,26 @@ some_cost setup line = omega arith
 abbrev pub left_of : SetupParts → ℕ → Under → ℕ → ℕ
 left_of setup hart u count = line_left setup (slice_get (script_of setup hart) count) u + sum_by (cost_of setup) (drop (count + 1) (script_of setup hart))
 
+-- all that is left, where no collision is kept
+abbrev pub all_left : WorldData → ℕ
+all_left w = sum_by (hart_left w) (range_with_len 0 w.setup.harts) + fences_left w + attacker_left w
+
+pub remaining_is : (w : WorldData) → w.collision ≡ None → remaining w ≡ all_left w
+unfolding remaining
+remaining_is w none = ap (λ o. if is_some o then 0 else all_left w) none
+
+pub none_left : (w : WorldData) (c : CollisionData) → w.collision ≡ Some c → remaining w ≡ 0
+unfolding remaining
+none_left w c kept = ap (λ o. if is_some o then 0 else all_left w) kept
+
 module _ (digest_of : List ℕ → List ℕ) (w : WorldData) (k : Kept digest_of w) (none : w.collision ≡ None) (hart : ℕ) (below : hart < w.setup.harts) where
   not_attacker : w.setup.harts ≢ hart
   not_attacker same = let h : w.setup.harts ≡ hart = same in omega arith
 
-  -- an event that changes how far this hart is, and leaves less of it
+  -- an event that changes how far this hart is and what the fences need, and leaves less of both together
   module _ (v : WorldData) (setup : v.setup ≡ w.setup) (free : v.collision ≡ None) (u : Under) (count : ℕ)
       (under : ChangedAt Idle w.under v.under hart u) (answered : ChangedAt 0 w.answered v.answered hart count)
-      (falls : left_of w.setup hart u count < hart_left w hart) where
+      (falls : left_of w.setup hart u count + needs_left w.setup.harts v.fences < hart_left w hart + fences_left w) where
     now_left : (h : ℕ) → hart_left v h ≡ left_of w.setup h (under_at v.under h) (answered_at v.answered h)
     now_left h = ap (λ (p : SetupParts). left_of p h (under_at v.under h) (answered_at v.answered h)) setup
 
@@ -52,51 +66,42 @@ module _ (digest_of : List ℕ → List ℕ) (w : WorldData) (k : Kept digest_of
     other_left : (h : ℕ) → h ≢ hart → hart_left v h ≡ hart_left w h
     other_left h other = now_left h ∙ ap (λ x. left_of w.setup h x (answered_at v.answered h)) (under.others h other) ∙ ap (left_of w.setup h (under_at w.under h)) (answered.others h other)
 
-    never_more : (h : ℕ) → hart_left v h ≤ hart_left w h
-    never_more h = elim (cases_Bool (eqb h hart)) [
-      | inl same ↦ subst (λ x. hart_left v x ≤ hart_left w x) (sym (eqb-true h hart same)) (let a : hart_left v hart ≡ left_of w.setup hart u count = own_left in let b : left_of w.setup hart u count < hart_left w hart = falls in omega arith)
-      | inr differ ↦ let a : hart_left v h ≡ hart_left w h = other_left h (eqb-false h hart differ) in omega arith
-    ]
-
     attackers_left : attacker_left v ≡ attacker_left w
     attackers_left =
         ap (λ (p : SetupParts). length p.attacker - answered_at v.answered p.harts) setup
         ∙ ap (λ n. length w.setup.attacker - n) (answered.others w.setup.harts not_attacker)
 
-    sums : sum_by (hart_left v) (range_with_len 0 w.setup.harts) + 1 ≤ sum_by (hart_left w) (range_with_len 0 w.setup.harts)
-    sums = sum_drops (hart_left w) (hart_left v) hart 0 w.setup.harts (omega arith) (omega arith) never_more
-        (let a : hart_left v hart ≡ left_of w.setup hart u count = own_left in let b : left_of w.setup hart u count < hart_left w hart = falls in omega arith)
-
-    falls_to : remaining v < remaining w
-    unfolding remaining
+    pub falls_to : remaining v < remaining w
     falls_to =
-        let new : remaining v ≡ sum_by (hart_left v) (range_with_len 0 v.setup.harts) + attacker_left v
-        = ap (λ o. if is_some o then 0 else sum_by (hart_left v) (range_with_len 0 v.setup.harts) + attacker_left v) free in
+        let new : remaining v ≡ all_left v = remaining_is v free in
+        let old : remaining w ≡ all_left w = remaining_is w none in
         let same : sum_by (hart_left v) (range_with_len 0 v.setup.harts) ≡ sum_by (hart_left v) (range_with_len 0 w.setup.harts)
         = ap (λ (p : SetupParts). sum_by (hart_left v) (range_with_len 0 p.harts)) setup in
-        let old : remaining w ≡ sum_by (hart_left w) (range_with_len 0 w.setup.harts) + attacker_left w
-        = ap (λ o. if is_some o then 0 else sum_by (hart_left w) (range_with_len 0 w.setup.harts) + attacker_left w) none in
-        let a : attacker_left v ≡ attacker_left w = attackers_left in
-        let s : sum_by (hart_left v) (range_with_len 0 w.setup.harts) + 1 ≤ sum_by (hart_left w) (range_with_len 0 w.setup.harts) = sums in
+        let sums : sum_by (hart_left v) (range_with_len 0 w.setup.harts) + hart_left w hart ≤ sum_by (hart_left w) (range_with_len 0 w.setup.harts) + hart_left v hart
+        = sum_changes (hart_left w) (hart_left v) hart 0 w.setup.harts (omega arith) (omega arith) other_left in
+        let fences : fences_left v ≡ needs_left w.setup.harts v.fences = ap (λ (p : SetupParts). needs_left p.harts v.fences) setup in
+        let own : hart_left v hart ≡ left_of w.setup hart u count = own_left in
+        let attackers : attacker_left v ≡ attacker_left w = attackers_left in
+        let less : left_of w.setup hart u count + needs_left w.setup.harts v.fences < hart_left w hart + fences_left w = falls in
         omega arith
 
-  hart_there : hart < length w.under
+  pub hart_there : hart < length w.under
   hart_there = let n : length w.under ≡ w.setup.harts = k.sizes.harts in omega arith
 
   actor_there : hart < length w.answered
   actor_there = let n : length w.answered ≡ w.setup.harts + 1 = k.sizes.actors in omega arith
 
-  module _ (line : Line) (under : Under) (here : hart_line w hart ≡ Some line) (so_far : under_at w.under hart ≡ under) (some : 0 < line_left w.setup (Some line) under) where
+  module _ (line : Line) (under : Under) (here : hart_line w hart ≡ Some line) (so_far : under_at w.under hart ≡ under) where
     abbrev later : ℕ
     later = sum_by (cost_of w.setup) (drop (answered_at w.answered hart + 1) (script_of w.setup hart))
 
     left_is : hart_left w hart ≡ line_left w.setup (Some line) under + later
     left_is = ap (λ l. line_left w.setup l (under_at w.under hart) + later) here ∙ ap (λ x. line_left w.setup (Some line) x + later) so_far
 
-    -- the line is answered
-    pub answered_less : (v : WorldData) → v.setup ≡ w.setup → v.collision ≡ None → v.under ≡ slice_set w.under hart Idle → v.answered ≡ slice_set w.answered hart (answered_at w.answered hart + 1)
-        → remaining v < remaining w
-    answered_less v setup free under_is answered_is =
+    -- the line is answered, and the fences need less than it had left besides what they needed
+    pub answered_by : (v : WorldData) → v.setup ≡ w.setup → v.collision ≡ None → v.under ≡ slice_set w.under hart Idle → v.answered ≡ slice_set w.answered hart (answered_at w.answered hart + 1)
+        → needs_left w.setup.harts v.fences < line_left w.setup (Some line) under + fences_left w → remaining v < remaining w
+    answered_by v setup free under_is answered_is less =
         falls_to v setup free Idle (answered_at w.answered hart + 1)
         (subst (λ xs. ChangedAt Idle w.under xs hart Idle) (sym under_is) (changed_set Idle w.under hart Idle hart_there))
         (subst (λ xs. ChangedAt 0 w.answered xs hart (answered_at w.answered hart + 1)) (sym answered_is) (changed_set 0 w.answered hart (answered_at w.answered hart + 1) actor_there))
@@ -107,10 +112,10 @@ module _ (digest_of : List ℕ → List ℕ) (w : WorldData) (k : Kept digest_of
         let l : hart_left w hart ≡ line_left w.setup (Some line) under + later = left_is in
         omega arith)
 
-    -- the line begins, or goes on
-    pub goes_less : (v : WorldData) (u : Under) → v.setup ≡ w.setup → v.collision ≡ None → v.under ≡ slice_set w.under hart u → v.answered ≡ w.answered
-        → line_left w.setup (Some line) u < line_left w.setup (Some line) under → remaining v < remaining w
-    goes_less v u setup free under_is answered_is less =
+    -- the line begins, or goes on, and less is left of it and of the fences together
+    pub goes_by : (v : WorldData) (u : Under) → v.setup ≡ w.setup → v.collision ≡ None → v.under ≡ slice_set w.under hart u → v.answered ≡ w.answered
+        → line_left w.setup (Some line) u + needs_left w.setup.harts v.fences < line_left w.setup (Some line) under + fences_left w → remaining v < remaining w
+    goes_by v u setup free under_is answered_is less =
         falls_to v setup free u (answered_at w.answered hart)
         (subst (λ xs. ChangedAt Idle w.under xs hart u) (sym under_is) (changed_set Idle w.under hart u hart_there))
         (subst (λ xs. ChangedAt 0 w.answered xs hart (answered_at w.answered hart)) (sym answered_is) (changed_none 0 w.answered hart))
@@ -118,13 +123,23 @@ module _ (digest_of : List ℕ → List ℕ) (w : WorldData) (k : Kept digest_of
         let l : hart_left w hart ≡ line_left w.setup (Some line) under + later = left_is in
         omega arith)
 
-    -- a collision is kept, and nothing is left
-    pub collision_less : (v : WorldData) (c : Rattle.world_machine.specs.Worlds.CollisionData) → v.collision ≡ Some c → remaining v < remaining w
-    unfolding remaining
-    collision_less v c kept =
-        let new : remaining v ≡ 0 = ap (λ o. if is_some o then 0 else sum_by (hart_left v) (range_with_len 0 v.setup.harts) + attacker_left v) kept in
-        let old : remaining w ≡ sum_by (hart_left w) (range_with_len 0 w.setup.harts) + attacker_left w
-        = ap (λ o. if is_some o then 0 else sum_by (hart_left w) (range_with_len 0 w.setup.harts) + attacker_left w) none in
-        let one : hart_left w hart ≤ sum_by (hart_left w) (range_with_len 0 w.setup.harts) = term_of_sum (hart_left w) hart 0 w.setup.harts (omega arith) (omega arith) in
-        let l : hart_left w hart ≡ line_left w.setup (Some line) under + later = left_is in
-        omega arith
+    -- with the fences as they were
+    pub goes_less : (v : WorldData) (u : Under) → v.setup ≡ w.setup → v.collision ≡ None → v.fences ≡ w.fences → v.under ≡ slice_set w.under hart u → v.answered ≡ w.answered
+        → line_left w.setup (Some line) u < line_left w.setup (Some line) under → remaining v < remaining w
+    goes_less v u setup free fences under_is answered_is less =
+        goes_by v u setup free under_is answered_is (let same : needs_left w.setup.harts v.fences ≡ fences_left w = ap (needs_left w.setup.harts) fences in omega arith)
+
+    module _ (some : 0 < line_left w.setup (Some line) under) where
+      pub answered_less : (v : WorldData) → v.setup ≡ w.setup → v.collision ≡ None → v.fences ≡ w.fences → v.under ≡ slice_set w.under hart Idle
+          → v.answered ≡ slice_set w.answered hart (answered_at w.answered hart + 1) → remaining v < remaining w
+      answered_less v setup free fences under_is answered_is =
+          answered_by v setup free under_is answered_is (let same : needs_left w.setup.harts v.fences ≡ fences_left w = ap (needs_left w.setup.harts) fences in omega arith)
+
+      -- a collision is kept, and nothing is left
+      pub collision_less : (v : WorldData) (c : CollisionData) → v.collision ≡ Some c → remaining v < remaining w
+      collision_less v c kept =
+          let new : remaining v ≡ 0 = none_left v c kept in
+          let old : remaining w ≡ all_left w = remaining_is w none in
+          let one : hart_left w hart ≤ sum_by (hart_left w) (range_with_len 0 w.setup.harts) = term_of_sum (hart_left w) hart 0 w.setup.harts (omega arith) (omega arith) in
+          let l : hart_left w hart ≡ line_left w.setup (Some line) under + later = left_is in
+          omega arith

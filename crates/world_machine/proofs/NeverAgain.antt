@@ -1,7 +1,10 @@
 -- An access within an event is never asked again: it answers a value, a fault or a collision.
-use Rattle.std.proofs.Common.{ℕ, ◌+◌, ◌/◌, ◌%◌, Bool, true, false, if◌then◌else◌, List, length}
-use Rattle.std.specs.Prelude.{nat_lt, ◌==◌}
+use Rattle.std.proofs.Common.{ℕ, ◌+◌, ◌/◌, ◌%◌, Bool, true, false, if◌then◌else◌, List, length, Option, Some, None}
+use Rattle.std.specs.Prelude.{nat_lt, ◌==◌, Result, Ok}
+use Rattle.pl_base.specs.declared.address.Va.{Va}
+use Rattle.pl_base.specs.declared.perms.Perms.{Perms}
 use Rattle.pl_base.specs.declared.place.Place.{Place}
+use Rattle.pl_base.specs.declared.refusal.No.{No}
 use Rattle.byteorder.specs.Endian.{little_bytes}
 use Rattle.mem_geom.specs.PathPlaces.{replaced_places, word_places}
 use Rattle.mem_slots.specs.Slots.{is_mounted, slot_at}
@@ -13,8 +16,15 @@ use Rattle.mem_ctl.specs.Writes.{word_at}
 use Rattle.mon_image.specs.declared.image.Image.{Image}
 use Rattle.mon_enclave.specs.declared.enclave.Enclave.{Enclave}
 use Rattle.mon_enclave.specs.Records.{enclave_at}
+use Rattle.mon_fence.specs.declared.fences.Fence.{Fence}
+use Rattle.mon_host.specs.Leaves.{early_refusal, leaf_slot, step_unless, word_replaced, written_unless}
+use Rattle.mon_host.specs.Mapping.{map_of, map_refusal}
+use Rattle.mon_host.specs.Unmapping.{page_of_leaf, unmap_begun, unmap_refusal}
 use Rattle.mon_life.specs.Pages.{PagePut, page_put_at}
 use Rattle.mon_life.specs.Putting.{create_put, put_at, steps_of}
+use Rattle.mon_owner.specs.declared.owners.Owner.{Owner}
+use Rattle.mon_tables.specs.Words.{leaf_word}
+use Rattle.pl_base.specs.declared.access.Mode.TheVariants.{Super}
 
 abbrev pub NeverAgain : {A : Type 0} → Outcome A → Type 0
 NeverAgain (Value a) = Unit {0}
@@ -87,3 +97,31 @@ module _ (digest_of : List ℕ → List ℕ) where
   unfolding create_put
   step_never tables e image shadow done enclaves g =
       put_at_never (page_put_at tables e image (enclave_at enclaves e).pages done) (done + 1 == steps_of shadow (length image.pages)) g
+
+  -- ---- the host's leaves
+
+  module _ {A : Type 0} (slot : ℕ × ℕ) (refusal : ℕ → Option No) (word : ℕ) (value : ℕ → A) where
+    written_never : (o : Option No) (a : A) (g : Going) → NeverAgain (written_unless digest_of o slot word a g).outcome
+    written_never (Some cause) a g = tt
+    written_never None a g = then_never {A = Unit {0}} {B = Result A No} (write_part_of digest_of slot.0 slot.1 8 word g).outcome
+        (write_part_of digest_of slot.0 slot.1 8 word g).after (λ _ h. answer (Ok a) h) (write_never slot.0 slot.1 8 word g) (λ done h. tt)
+
+    replaced_never : (g : Going) → NeverAgain (word_replaced digest_of slot refusal word value g).outcome
+    unfolding word_replaced
+    replaced_never g = then_never {A = ℕ} {B = Result A No} (read_word_of digest_of slot.0 slot.1 g).outcome
+        (read_word_of digest_of slot.0 slot.1 g).after (λ old h. written_unless digest_of (refusal old) slot word (value old) h) (read_never slot.0 slot.1 g)
+        (λ old h. written_never (refusal old) (value old) h)
+
+    unless_never : (o : Option No) (g : Going) → NeverAgain (step_unless o (word_replaced digest_of slot refusal word value) g).outcome
+    unless_never (Some cause) g = tt
+    unless_never None g = replaced_never g
+
+  pub map_never : (tables : ℕ) (fences : List (Option Fence)) (owners : List Owner) (va : Va) (page : ℕ) (perms : Perms) (g : Going)
+      → NeverAgain (map_of digest_of tables fences owners va page perms g).step.outcome
+  unfolding map_of
+  map_never tables fences owners va page perms g =
+      unless_never {A = Unit {0}} (leaf_slot tables va) (map_refusal owners page) (leaf_word page perms Super) (λ word. tt) (early_refusal tables fences va) g
+
+  pub unmap_never : (tables : ℕ) (fences : List (Option Fence)) (hart : ℕ) (va : Va) (g : Going) → NeverAgain (unmap_begun digest_of tables fences hart va g).step.outcome
+  unfolding unmap_begun
+  unmap_never tables fences hart va g = unless_never {A = ℕ} (leaf_slot tables va) unmap_refusal 0 page_of_leaf (early_refusal tables fences va) g

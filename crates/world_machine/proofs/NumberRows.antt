@@ -1,31 +1,44 @@
 -- An event of a hart that has a number under way: it changes that number alone, one page of it or of its tables, and how far the hart is.
-use Rattle.std.proofs.Common.{◌≡◌, ◌≢◌, ℕ, ◌*◌, ◌<◌, ◌⊎◌, true, false, List, length, slice_get, Option, Some, None, option_map, refl, sym, ap, ◌∙◌, subst, arith, inl, inr}
+use Rattle.std.proofs.Common.{◌≡◌, ◌≢◌, ℕ, ◌+◌, ◌*◌, ◌<◌, ◌⊎◌, true, false, List, length, slice_get, Option, Some, None, option_map, refl, sym, ap, ◌∙◌, subst, arith, inl, inr}
 use Rattle.std.specs.Prelude.{Contains}
+use Rattle.std.specs.List.{All}
+use Rattle.std.proofs.lemmas.Bool.{false≢true}
+use Rattle.std.proofs.lemmas.List.Elements.{All-weaker}
 use Rattle.std.proofs.lemmas.Option.{slice_get_within}
+use Rattle.rv_tlb.specs.declared.tlb.TlbEntry.{TlbEntry}
 use Rattle.mem_ctl.specs.Access.{BothChange, BothStay, Leaves}
 use Rattle.mem_ctl.specs.Data.{CtlData}
 use Rattle.mem_geom.specs.Parts.{page_bytes}
 use Rattle.mon_enclave.specs.declared.enclave.Enclave.{Enclave}
 use Rattle.mon_enclave.specs.Records.{enclave_at, free_enclave}
+use Rattle.mon_host.specs.Laws.{mirror_words}
+use Rattle.mon_life.specs.Pages.{leaves_of}
 use Rattle.mon_owner.specs.declared.owners.Owner.{Owner}
 use Rattle.mon_owner.specs.declared.owners.Owner.TheVariants as owner_is
+use Rattle.mon_tables.specs.SpaceWalks.{NumberTables}
 use Rattle.mon_tables.specs.Tables.{table_number}
+use Rattle.pl_history.specs.declared.line.Line.{Line}
 use Rattle.pl_history.specs.declared.setup.SetupParts.{SetupParts}
 use Rattle.pl_history.specs.History.{HistoryData}
 use Rattle.pl_history.specs.Monitor.{Monitor, Number, is_host, maps_of, script_of}
 use Rattle.pl_history.specs.Monitor as monitor
 use Rattle.world_machine.specs.declared.under.Under.{Under}
+use Rattle.world_machine.specs.declared.under.Under.TheVariants.{Idle}
 use Rattle.world_machine.specs.BytesAgree.{ByteAgrees, HasPut, HostBytesAgree, OnlyAttacksDiffer, PageAgrees}
-use Rattle.world_machine.specs.EnclavesAgree.{EnclaveStands, IsOwn}
+use Rattle.world_machine.specs.EnclavesAgree.{EnclaveStands, EnclavesAgree, IsOwn}
 use Rattle.world_machine.specs.LinesUnderWay.{LineUnderWay, number_under_way}
-use Rattle.world_machine.specs.RecordsAgree.{OwnersAgree, RecordAgrees, owner_of}
+use Rattle.world_machine.specs.Making.{image_of}
+use Rattle.world_machine.specs.RecordsAgree.{OwnersAgree, RecordAgrees, RecordsAgree, owner_of}
 use Rattle.world_machine.specs.Standing.{Kept, state_of, written_page}
-use Rattle.world_machine.specs.Worlds.{WorldData, hart_line, under_at}
+use Rattle.world_machine.specs.TranslationsAgree.{IsFresh, TranslationsStand, WalkingStands, walking}
+use Rattle.world_machine.specs.Worlds.{WorldData, hart_line, tlb_at, under_at}
 use Rattle.world_machine.proofs.Frames.{Frame, enclaves_frame, line_frame, records_frame}
 use Rattle.world_machine.proofs.LineMoves.{LineMoves}
-use Rattle.world_machine.proofs.Lists.{ChangedAt, if_other, if_same}
+use Rattle.world_machine.proofs.LineTranslations.{fresh_walking, idle_walks, isnt_removing}
+use Rattle.world_machine.proofs.Lists.{ChangedAt, everywhere, if_other, if_same}
 use Rattle.world_machine.proofs.RowKept.{RowFacts, attacks_frame, line_after, row_kept, with_parts}
 use Rattle.world_machine.proofs.SetupFacts.{table_guarded, tables_apart, used_there}
+use Rattle.world_machine.proofs.TranslationFrames.{KeepsSpace, SpacesStay, TablePagesStay, fresh_stays, host_table_inside, live_there, number_removal, number_table_inside, same_keeps, translations_stay}
 
 -- all pages but one stay, off chip and in the mirror
 pub record AllButOneStay (page : ℕ) (old new : CtlData) : Type 0 where
@@ -54,12 +67,14 @@ pub record NumberBecomes (s s' : Monitor) (e : ℕ) (n : Number) : Type 0 where
   pub maps : (page : ℕ) → maps_of s' page ≡ maps_of s page
   pub bytes : (page : ℕ) → s'.bytes page ≡ s.bytes page
   pub attacks : s'.attacks ≡ s.attacks
+  pub space : s'.space ≡ s.space
+  pub removals : s'.removals ≡ s.removals
   pub here : s'.number e ≡ n
   pub others : (f : ℕ) → f ≢ e → s'.number f ≡ s.number f
 
 -- it stays
 pub becomes_same : (s : Monitor) (e : ℕ) → NumberBecomes s s e (s.number e)
-becomes_same s e = record { owner = λ page. refl; maps = λ page. refl; bytes = λ page. refl; attacks = refl; here = refl; others = λ f other. refl }
+becomes_same s e = record { owner = λ page. refl; maps = λ page. refl; bytes = λ page. refl; attacks = refl; space = refl; removals = refl; here = refl; others = λ f other. refl }
 
 -- it changes, and the hart's line is answered
 pub becomes_answered : (s : Monitor) (e hart : ℕ) (n : Number) → NumberBecomes s (monitor.answer (monitor.with_number s e n) hart) e n
@@ -68,9 +83,43 @@ becomes_answered s e hart n = record {
   maps = λ page. refl;
   bytes = λ page. refl;
   attacks = refl;
+  space = refl;
+  removals = refl;
   here = if_same e n (s.number e);
   others = λ f other. if_other e f n (s.number f) other;
 }
+
+-- The number's space stays where it is live, and so do its tables' pages; where it becomes live, its tables stand.
+pub record NumberTranslates (w : WorldData) (e : ℕ) (c : CtlData) (r' : Enclave) (n' : Number) : Type 0 where
+  pub keeps : ((state_of w).number e).live ≡ true → KeepsSpace ((state_of w).number e) n'
+  pub tables : (level : ℕ) → ((state_of w).number e).live ≡ true → level < 3 → page_bytes c.mirror (table_number w.setup.tables e level) ≡ page_bytes w.ctl.mirror (table_number w.setup.tables e level)
+  pub made : ((state_of w).number e).live ≡ false → n'.live ≡ true → NumberTables w.setup.tables e (mirror_words c) (leaves_of r'.pages (image_of w.setup r'.image).pages)
+
+-- a number that isn't live, and doesn't become so
+pub never_live : (w : WorldData) (e : ℕ) (c : CtlData) (r' : Enclave) (n' : Number) → ((state_of w).number e).live ≡ false → n'.live ≡ false → NumberTranslates w e c r' n'
+never_live w e c r' n' was is = record {
+  keeps = λ live. absurd (false≢true (sym was ∙ live));
+  tables = λ level live low. absurd (false≢true (sym was ∙ live));
+  made = λ not_live live. absurd (false≢true (sym is ∙ live));
+}
+
+-- The hart's line takes nothing away; its translations may be used in the state before the event, and its walk stands.
+pub record HartTranslates (w : WorldData) (hart : ℕ) (c : CtlData) (enclaves' : List Enclave) (tlbs' : List (List TlbEntry)) (line : Option Line) (u : Under) : Type 0 where
+  pub removes_none : isnt_removing u ≡ true
+  pub harts : length tlbs' ≡ length w.tlbs
+  pub tlbs : (other : ℕ) → other ≢ hart → tlb_at tlbs' other ≡ tlb_at w.tlbs other
+  pub entries : All (IsFresh w.setup (state_of w) w.fences hart) (tlb_at tlbs' hart)
+  pub walk : WalkingStands c (IsFresh w.setup (state_of w) w.fences hart) (walking w.setup.tables (enclave_at enclaves') line u)
+
+-- its translations stay
+pub keeps_tlbs : (digest_of : List ℕ → List ℕ) (w : WorldData) (hart : ℕ) (c : CtlData) (enclaves' : List Enclave) (line : Option Line) (u : Under) → Kept digest_of w → isnt_removing u ≡ true
+    → WalkingStands c (IsFresh w.setup (state_of w) w.fences hart) (walking w.setup.tables (enclave_at enclaves') line u) → HartTranslates w hart c enclaves' w.tlbs line u
+keeps_tlbs digest_of w hart c enclaves' line u k none walk = record { removes_none = none; harts = refl; tlbs = λ other differs. refl; entries = k.stands.translations.fresh.entries hart; walk = walk }
+
+-- and its line has no walk
+pub idle_translates : (digest_of : List ℕ → List ℕ) (w : WorldData) (hart : ℕ) (c : CtlData) (enclaves' : List Enclave) (line : Option Line) → Kept digest_of w
+    → HartTranslates w hart c enclaves' w.tlbs line Idle
+idle_translates digest_of w hart c enclaves' line k = keeps_tlbs digest_of w hart c enclaves' line Idle k refl (idle_walks c (IsFresh w.setup (state_of w) w.fences hart) w.setup.tables (enclave_at enclaves') line)
 
 module _ (digest_of : List ℕ → List ℕ) (w : WorldData) (k : Kept digest_of w) where
   abbrev s : Monitor
@@ -91,7 +140,7 @@ module _ (digest_of : List ℕ → List ℕ) (w : WorldData) (k : Kept digest_of
   host_owned page None is host = cc
   host_owned page (Some o) is host = owned_within page o is
 
-  host_within : (page : ℕ) → is_host (s.owner page) ≡ true → page < 64 * w.ctl.zones
+  pub host_within : (page : ℕ) → is_host (s.owner page) ≡ true → page < 64 * w.ctl.zones
   host_within page host = host_owned page (slice_get w.owners page) refl (ap is_host (sym (k.stands.owners.owner page)) ∙ host)
 
   -- a table's page is guarded
@@ -123,6 +172,23 @@ module _ (digest_of : List ℕ → List ℕ) (w : WorldData) (k : Kept digest_of
         cc
     not_tables f lower page differ few low (inr (level, lows, is)) same = tables_apart w.setup.tables e f lower level differ low lows (same ∙ is)
 
+    not_host_tables : (table page : ℕ) → table < 2 + w.setup.tables → IsOfNumber w.setup w.owners e page → table ≢ page
+    not_host_tables table page low (inl own) same =
+        let clash : Some owner_is.Guard ≡ Some (owner_is.Enclave (record { 0 = e })) = sym (k.sizes.guarded table (omega arith)) ∙ ap (slice_get w.owners) same ∙ own in
+        cc
+    not_host_tables table page low (inr (level, lows, is)) same = let equal : table ≡ table_number w.setup.tables e level = same ∙ is in absurd (omega arith)
+
+    -- a page of the number's own isn't a table
+    own_no_table : (level page : ℕ) → IsOwn w.owners e page → table_number w.setup.tables e level ≢ page
+    own_no_table level page own same =
+        let clash : Some owner_is.Guard ≡ Some (owner_is.Enclave (record { 0 = e })) = sym (table_guard e level there) ∙ ap (slice_get w.owners) same ∙ own in
+        cc
+
+    -- so the number's tables stay where a page of its own changes
+    pub own_leaves_tables : (page : ℕ) (c : CtlData) → IsOwn w.owners e page → AllButOneStay page w.ctl c
+        → (level : ℕ) → level < 3 → page_bytes c.mirror (table_number w.setup.tables e level) ≡ page_bytes w.ctl.mirror (table_number w.setup.tables e level)
+    own_leaves_tables page c own stay level low = stay.mirror (table_number w.setup.tables e level) (number_table_inside digest_of w k e level there) (own_no_table level page own)
+
     module _ (none : w.collision ≡ None) (hart : ℕ) (under_way : number_under_way (hart_line w hart) (under_at w.under hart) ≡ Some e)
         (c : CtlData) (leaves : Leaves digest_of w.ctl c) (page : ℕ) (of_number : IsOfNumber w.setup w.owners e page) (stay : AllButOneStay page w.ctl c)
         (enclaves' : List Enclave) (r' : Enclave) (change : ChangedAt free_enclave w.enclaves enclaves' e r')
@@ -132,7 +198,8 @@ module _ (digest_of : List ℕ → List ℕ) (w : WorldData) (k : Kept digest_of
         (live_own : (own : ℕ) → Contains n'.pages own → n'.live ≡ true → PageAgrees c.off_chip c.mirror s.attacks own)
         (put_own : (own : ℕ) → HasPut (slice_get (script_of w.setup hart) count) u own → PageAgrees c.off_chip c.mirror s.attacks own)
         (own_line : LineUnderWay w.setup (page_bytes c.mirror) (enclave_at enclaves') s'.number hart (slice_get (script_of w.setup hart) count) u)
-        (own_number : (f : ℕ) → number_under_way (slice_get (script_of w.setup hart) count) u ≡ Some f → f ≡ e) where
+        (own_number : (f : ℕ) → number_under_way (slice_get (script_of w.setup hart) count) u ≡ Some f → f ≡ e)
+        (translates : NumberTranslates w e c r' n') (tlbs' : List (List TlbEntry)) (own : HartTranslates w hart c enclaves' tlbs' (slice_get (script_of w.setup hart) count) u) where
       abbrev bytes' : ℕ → List ℕ
       bytes' = page_bytes c.mirror
 
@@ -182,17 +249,64 @@ module _ (digest_of : List ℕ → List ℕ) (w : WorldData) (k : Kept digest_of
       not_theirs : (other f : ℕ) → other ≢ hart → number_under_way (hart_line w other) (under_at w.under other) ≡ Some f → f ≢ e
       not_theirs other f differs is same = differs (k.stands.apart other hart e (is ∙ ap Some same) under_way)
 
-      facts : RowFacts digest_of w hart c w.owners enclaves' under' answered' history' s' u count
+      records_agree : RecordsAgree (enclave_at enclaves') s'.number
+      records_agree = records_frame w.setup e (enclave_at w.enclaves) (enclave_at enclaves') s.number s'.number (written_page w) bytes' w.owners w.owners frame k.stands.records
+          (subst (λ x. RecordAgrees x (s'.number e)) (sym change.here) (subst (RecordAgrees r') (sym becomes.here) agrees))
+
+      enclaves_agree : EnclavesAgree w.setup bytes' w.owners (enclave_at enclaves') s'.number
+      enclaves_agree = enclaves_frame w.setup e (enclave_at w.enclaves) (enclave_at enclaves') s.number s'.number (written_page w) bytes' w.owners w.owners frame k.stands.enclaves
+          (λ used. subst (λ x. EnclaveStands w.setup bytes' w.owners e x (s'.number e)) (sym change.here)
+          (subst (EnclaveStands w.setup bytes' w.owners e r') (sym becomes.here) stands))
+
+      -- ---- translations
+
+      spaces : SpacesStay digest_of w k c (enclave_at enclaves') w.owners s'
+      spaces = record {
+        space = becomes.space;
+        removals = becomes.removals;
+        numbers = everywhere (λ f. (s.number f).live ≡ true → KeepsSpace (s.number f) (s'.number f)) e
+            (λ live. subst (KeepsSpace (s.number e)) (sym becomes.here) (translates.keeps live))
+            (λ f other live. same_keeps (s.number f) (s'.number f) (becomes.others f other) live);
+        records = records_agree;
+        enclaves = enclaves_agree;
+      }
+
+      table_pages : TablePagesStay digest_of w k c (enclave_at enclaves') w.owners s'
+      table_pages = record {
+        host = λ p low. stay.mirror p (host_table_inside digest_of w k p low) (not_host_tables p page low of_number);
+        numbers = everywhere (λ f. (level : ℕ) → (s.number f).live ≡ true → level < 3 → bytes' (table_number w.setup.tables f level) ≡ written_page w (table_number w.setup.tables f level)) e
+            translates.tables (λ f other level live low. frame.table_bytes f level other (live_there digest_of w k f live) low);
+        made = everywhere (λ f. (s.number f).live ≡ false → (s'.number f).live ≡ true
+            → NumberTables w.setup.tables f (mirror_words c) (leaves_of (enclave_at enclaves' f).pages (image_of w.setup (enclave_at enclaves' f).image).pages)) e
+            (λ was live. subst (λ (x : Enclave). NumberTables w.setup.tables e (mirror_words c) (leaves_of x.pages (image_of w.setup x.image).pages)) (sym change.here)
+            (translates.made was (ap (λ (m : Number). m.live) (sym becomes.here) ∙ live)))
+            (λ f other was live. absurd (false≢true (sym was ∙ ap (λ (m : Number). m.live) (sym (becomes.others f other)) ∙ live)));
+      }
+
+      translations : TranslationsStand w.setup c tlbs' w.fences (enclave_at enclaves') s' (line_after w answered') (under_at under')
+      translations = translations_stay digest_of w k c (enclave_at enclaves') w.owners s' spaces table_pages hart tlbs' (line_after w answered') (under_at under') (record {
+        lines = λ other differs. ap (slice_get (script_of w.setup other)) (moves.answered_change.others other differs);
+        unders = moves.under_change.others;
+        contexts = λ other f differs is. ap (λ (x : Enclave). x.context) (change.others f (not_theirs other f differs is));
+        harts = own.harts;
+        tlbs = own.tlbs;
+        none_removed = number_removal digest_of w k hart e under_way;
+        removes_none = ap isnt_removing moves.under_change.here ∙ own.removes_none;
+        entries = All-weaker (IsFresh w.setup s w.fences hart) (IsFresh w.setup s' w.fences hart) (fresh_stays digest_of w k c (enclave_at enclaves') w.owners s' spaces hart) (tlb_at tlbs' hart) own.entries;
+        walk = subst (λ l. WalkingStands c (IsFresh w.setup s' w.fences hart) (walking w.setup.tables (enclave_at enclaves') l (under_at under' hart))) (sym line_own)
+            (subst (λ v. WalkingStands c (IsFresh w.setup s' w.fences hart) (walking w.setup.tables (enclave_at enclaves') (slice_get (script_of w.setup hart) count) v)) (sym moves.under_change.here)
+            (fresh_walking c (IsFresh w.setup s w.fences hart) (IsFresh w.setup s' w.fences hart) (fresh_stays digest_of w k c (enclave_at enclaves') w.owners s' spaces hart)
+            (walking w.setup.tables (enclave_at enclaves') (slice_get (script_of w.setup hart) count) u) own.walk));
+      })
+
+      facts : RowFacts digest_of w hart c w.owners enclaves' tlbs' w.fences under' answered' history' s' u count
       facts = record {
         line = moves;
         sizes = record { zones = leaves.same_zones; slots = leaves.same_slots; pages = refl; guarded = λ p is. is; numbers = change.size };
         trees = leaves.kept;
         owners_agree = owners_agree;
-        records = records_frame w.setup e (enclave_at w.enclaves) (enclave_at enclaves') s.number s'.number (written_page w) bytes' w.owners w.owners frame k.stands.records
-            (subst (λ x. RecordAgrees x (s'.number e)) (sym change.here) (subst (RecordAgrees r') (sym becomes.here) agrees));
-        enclaves_agree = enclaves_frame w.setup e (enclave_at w.enclaves) (enclave_at enclaves') s.number s'.number (written_page w) bytes' w.owners w.owners frame k.stands.enclaves
-            (λ used. subst (λ x. EnclaveStands w.setup bytes' w.owners e x (s'.number e)) (sym change.here)
-            (subst (EnclaveStands w.setup bytes' w.owners e r') (sym becomes.here) stands));
+        records = records_agree;
+        enclaves_agree = enclaves_agree;
         host = host;
         attacks = attacks;
         other_lines = λ other differs. line_frame w.setup e (enclave_at w.enclaves) (enclave_at enclaves') s.number s'.number (written_page w) bytes' w.owners w.owners frame
@@ -200,8 +314,9 @@ module _ (digest_of : List ℕ → List ℕ) (w : WorldData) (k : Kept digest_of
             other (hart_line w other) (under_at w.under other) (λ f is. not_theirs other f differs is) (k.stands.lines other);
         own_line = own_line;
         own_apart = λ other f differs own is. not_theirs other f differs is (own_number f own);
+        translations = translations;
       }
 
       -- such an event keeps what a world keeps
-      pub number_row : Kept digest_of (with_parts w c w.owners enclaves' under' answered' history')
-      number_row = row_kept digest_of w hart c w.owners enclaves' under' answered' history' s' u count k none facts
+      pub number_row : Kept digest_of (with_parts w c w.owners enclaves' tlbs' w.fences under' answered' history')
+      number_row = row_kept digest_of w hart c w.owners enclaves' tlbs' w.fences under' answered' history' s' u count k none facts

@@ -12,15 +12,24 @@ use Rattle.byteorder.specs.Endian.{little_bytes}
 use Rattle.pl_base.specs.ListedWords.{listed_word, stands_at}
 use Rattle.pl_base.specs.States.{is_free}
 use Rattle.mem_geom.specs.Parts.{page_bytes}
+use Rattle.rv_tlb.specs.declared.tlb.TlbEntry.{TlbEntry}
+use Rattle.mem_ctl.specs.Data.{CtlData}
 use Rattle.mem_ctl.specs.Start.{start_data, start_page, start_zone, tree_memory}
 use Rattle.mem_ctl.proofs.Joined.{map-range_same}
-use Rattle.mem_ctl.proofs.TreeMemory.{page-at, start_data-IsKept, start_zone-IsZone}
+use Rattle.mem_ctl.proofs.TreeMemory.{page-at, start_data-IsKept, start_data-words, start_zone-IsZone}
 use Rattle.mon_enclave.specs.declared.enclave.Enclave.{Enclave}
 use Rattle.mon_enclave.specs.Records.{enclave_at, free_enclave}
+use Rattle.mon_fence.specs.declared.fences.Fence.{Fence}
+use Rattle.mon_fence.specs.Fences.{fence_of}
+use Rattle.mon_fence.proofs.Needs.{none_fit}
+use Rattle.mon_host.specs.Laws.{mirror_words}
+use Rattle.mon_host.proofs.StartLemmas.{starts_in_empty_space}
 use Rattle.mon_owner.specs.declared.owners.Owner.TheVariants.{Guard, Host}
 use Rattle.mon_owner.specs.Owners.{first_owners}
+use Rattle.mon_tables.specs.SpaceWalks.{HostTables}
 use Rattle.mon_tables.specs.Tables.{start_words}
 use Rattle.mon_tables.specs.Words.{pointer_word}
+use Rattle.mon_tables.proofs.StartWords.{starts_empty}
 use Rattle.pl_history.specs.declared.line.Line.{Line}
 use Rattle.pl_history.specs.declared.setup.SetupParts.{SetupParts}
 use Rattle.pl_history.specs.History.{NamesPart}
@@ -29,12 +38,15 @@ use Rattle.pl_history.specs.Rules.{guarded_of, is_within, pages_of}
 use Rattle.world_attack.proofs.RoomLemmas.{room_at_start}
 use Rattle.world_machine.specs.declared.under.Under.{Under}
 use Rattle.world_machine.specs.declared.under.Under.TheVariants.{Idle}
+use Rattle.world_machine.specs.FencesStand.{FenceStands, RemovalStands}
 use Rattle.world_machine.specs.LinesUnderWay.{LineUnderWay, number_under_way}
 use Rattle.world_machine.specs.Reached.{CanRun, opening_world}
 use Rattle.world_machine.specs.RecordsAgree.{OwnersAgree, RecordAgrees, is_begun, owner_of}
 use Rattle.world_machine.specs.Sizes.{HasSizes}
 use Rattle.world_machine.specs.Standing.{Kept, Stands}
-use Rattle.world_machine.specs.Worlds.{under_at}
+use Rattle.world_machine.specs.TranslationsAgree.{IsFresh, TranslationsStand, WalkingStands, walking}
+use Rattle.world_machine.specs.Worlds.{tlb_at, under_at}
+use Rattle.world_machine.proofs.LineTranslations.{idle_walks, removes_none}
 use Rattle.world_machine.proofs.QuietRows.{idle_has_none, none_some}
 use Rattle.world_machine.proofs.SetupFacts.{guarded_few}
 
@@ -177,7 +189,7 @@ module _ (digest_of : List ℕ → List ℕ) (law : (m : List ℕ) → length (d
         rules = can.rules;
         built = can.built;
         bytes = can.bytes;
-        budgets = can.budgets;
+        lines_fit = can.lines_fit;
         zones = refl;
         slots = refl;
         pages = length-append (replicate guarded Guard) (replicate (pages - guarded) (Host 0))
@@ -226,6 +238,48 @@ module _ (digest_of : List ℕ → List ℕ) (law : (m : List ℕ) → length (d
       made_page digest_of law setup.zones few_zones (start_words setup.tables) page range.1
       ∙ zero_page (start_words setup.tables) page (λ offset. no_start_word setup.tables page offset (omega arith))
 
+  -- ---- translations
+
+  abbrev ctl : CtlData
+  ctl = start_data digest_of setup.zones setup.slots (start_words setup.tables)
+
+  few_tables : setup.tables ≤ 32
+  few_tables = (within 1 32 setup.tables can.rules.tables).1
+
+  -- the host's tables stand for the empty space
+  host_tables : HostTables setup.tables (mirror_words ctl) []
+  host_tables = starts_in_empty_space starts_empty setup.tables ctl few_tables
+      (let more : guarded < pages = guarded_few setup can.rules in omega arith)
+      (start_data-words digest_of law setup.zones (start_words setup.tables) few_zones)
+
+  -- no hart has a fence, or a translation
+  no_fence : (hart : ℕ) → fence_of (replicate setup.harts None) hart ≡ None
+  no_fence hart = first_of setup.harts None hart
+
+  no_entries : (hart : ℕ) → tlb_at (replicate setup.harts []) hart ≡ []
+  no_entries hart = first_of setup.harts [] hart
+
+  translations : (line : ℕ → Option Line) → TranslationsStand setup ctl (replicate setup.harts []) (replicate setup.harts None) (enclave_at records) (opening setup) line (under_at under)
+  unfolding opening
+  translations line =
+      let no_tlb : List TlbEntry = [] in
+      let none : Option Fence = None in
+      record {
+        tables = record { host = host_tables; numbers = λ e live. absurd (false≢true live) };
+        harts = length-replicate setup.harts no_tlb;
+        fences_stand = record {
+          size = length-replicate setup.harts none;
+          needs_others = none_fit setup.harts (within 1 8 setup.harts can.rules.harts).1;
+          each = λ hart. subst (λ fence. FenceStands fence []) (sym (no_fence hart)) refl;
+        };
+        removals = λ hart. subst (λ u. RemovalStands (line hart) u []) (sym (is_idle hart)) (removes_none (line hart) Idle [] refl refl);
+        fresh = record {
+          entries = λ hart. subst (All (IsFresh setup (opening setup) (replicate setup.harts None) hart)) (sym (no_entries hart)) (All-nil (IsFresh setup (opening setup) (replicate setup.harts None) hart));
+          walks = λ hart. subst (λ u. WalkingStands ctl (IsFresh setup (opening setup) (replicate setup.harts None) hart) (walking setup.tables (enclave_at records) (line hart) u)) (sym (is_idle hart))
+              (idle_walks ctl (IsFresh setup (opening setup) (replicate setup.harts None) hart) setup.tables (enclave_at records) (line hart));
+        };
+      }
+
   stands : Stands (opening_world digest_of setup) (opening setup)
   unfolding opening_world opening
   stands = record {
@@ -242,6 +296,7 @@ module _ (digest_of : List ℕ → List ℕ) (law : (m : List ℕ) → length (d
     };
     lines = λ hart. subst (LineUnderWay setup _ _ _ hart _) (sym (is_idle hart)) tt;
     apart = λ hart other e here there. absurd (none_under_way _ _ e (is_idle hart) here);
+    translations = translations (λ hart. _);
   }
     where
       none_under_way : (line : Option Line) (now : Under) (e : ℕ) → now ≡ Idle → number_under_way line now ≡ Some e → ⊥

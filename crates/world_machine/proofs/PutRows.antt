@@ -1,7 +1,7 @@
 -- The rows of `create` that put a page: the line goes on, its number is made, or a fault stops it; or a collision is kept.
 use Rattle.std.proofs.Common.{◌≡◌, ◌≢◌, ℕ, zero, suc, ◌+◌, ◌*◌, ◌<◌, ◌⊎◌, eqb, Bool, true, false, if◌then◌else◌, List, [], ◌∷◌, length, map, take, get_or, slice_get, unwrap_or, Option, Some, None, refl, sym, ap, ◌∙◌, subst, arith, inl, inr}
 use Rattle.std.specs.Prelude.{Contains, slice_set}
-use Rattle.std.proofs.lemmas.Bool.{cases_Bool, eqb-true, eqb-false}
+use Rattle.std.proofs.lemmas.Bool.{cases_Bool, eqb-true, eqb-false, false≢true}
 use Rattle.std.proofs.lemmas.List.{take_all}
 use Rattle.std.proofs.lemmas.Option.{get_or_from_slice_get, slice_get_within}
 use Rattle.pl_base.specs.declared.number.EncNo.{EncNo}
@@ -19,11 +19,13 @@ use Rattle.mem_geom.specs.Parts.{page_bytes}
 use Rattle.mem_geom.specs.PathPlaces.{replaced_places}
 use Rattle.mon_enclave.specs.declared.enclave.Enclave.{Enclave}
 use Rattle.mon_enclave.specs.Records.{enclave_at, free_enclave}
+use Rattle.mon_host.specs.Laws.{mirror_words}
 use Rattle.mon_image.specs.declared.image.Image.{Image}
 use Rattle.mon_image.specs.declared.page.ImagePage.{ImagePage}
-use Rattle.mon_life.specs.Pages.{PagePut, page_put_at}
+use Rattle.mon_life.specs.Pages.{PagePut, leaves_of, page_put_at}
 use Rattle.mon_life.specs.Putting.{CreatePut, create_put, create_put_by, in_state, put_at}
 use Rattle.mon_owner.specs.declared.owners.Owner.{Owner}
+use Rattle.mon_tables.specs.SpaceWalks.{NumberTables}
 use Rattle.mon_tables.specs.Tables.{table_number}
 use Rattle.pl_history.specs.declared.answer.Answer.{Answer}
 use Rattle.pl_history.specs.declared.answer.Answer.TheVariants as answer_is
@@ -45,12 +47,15 @@ use Rattle.world_machine.specs.Making.{image_of, put_next}
 use Rattle.world_machine.specs.Pages.{flat_pages, numbers_of}
 use Rattle.world_machine.specs.RecordsAgree.{LiveAgrees, RecordAgrees, RetiredAgrees, is_begun}
 use Rattle.world_machine.specs.Standing.{IsAttackedPlace, Kept, state_of, written_page}
+use Rattle.world_machine.specs.TranslationsAgree.{IsFresh, WalkingStands, walking}
 use Rattle.world_machine.specs.Worlds.{WorldData, answered_at, hart_line, under_at}
 use Rattle.world_machine.proofs.HostBytes.{byte_of_page}
 use Rattle.world_machine.proofs.Licences.{by_replaced, collision_of, lies_on_path, own_concerned, replaced_is_attacked, table_concerned}
 use Rattle.world_machine.proofs.LineKinds.{answered_line, goes_on_line, still_line}
+use Rattle.world_machine.proofs.LineTranslations.{isnt_removing}
 use Rattle.world_machine.proofs.Lists.{changed_none, changed_set, if_same}
-use Rattle.world_machine.proofs.NumberRows.{AllButOneStay, IsOfNumber, becomes_answered, becomes_same, but_changed, but_none, number_row, of_number_within, table_guard}
+use Rattle.world_machine.proofs.MadeTables.{made_tables}
+use Rattle.world_machine.proofs.NumberRows.{AllButOneStay, IsOfNumber, becomes_answered, becomes_same, but_changed, but_none, idle_translates, keeps_tlbs, never_live, number_row, of_number_within, table_guard}
 use Rattle.world_machine.proofs.PutSteps.{own_put, own_size, put_among, put_image_bytes, put_of_number, put_size, puts_apart}
 use Rattle.world_machine.proofs.QuietRows.{idle_has_none, idle_put_none, none_some}
 use Rattle.world_machine.proofs.RowKept.{collision_kept}
@@ -267,6 +272,9 @@ module _ (digest_of : List ℕ → List ℕ) (tells : PageWritesTell digest_of) 
           (λ own is. put_agrees own (subst (λ l. HasPut l u_more own) here is))
           (subst (λ l. LineUnderWay w.setup (page_bytes c.mirror) (enclave_at w.enclaves) s.number hart l u_more) (sym here) putting_more)
           (λ f is. some_same f e.0 (sym is ∙ ap (λ l. number_under_way l u_more) here))
+          (never_live w e.0 c r n not_live not_live) w.tlbs
+          (keeps_tlbs digest_of w hart c w.enclaves (hart_line w hart) u_more k refl
+          (subst (λ l. WalkingStands c (IsFresh w.setup s w.fences hart) (walking w.setup.tables (enclave_at w.enclaves) l u_more)) (sym here) tt))
 
     -- or it is the last, and the number is made
     module _ (last : eqb (done + 1) (length im.pages + 3) ≡ true) where
@@ -332,6 +340,12 @@ module _ (digest_of : List ℕ → List ℕ) (tells : PageWritesTell digest_of) 
           let whole : take done pages ≡ pages = take_all done pages (omega (arith, all_done)) in
           old_put c leaves stay own (subst (λ ps. Contains ps own) (agrees.pages ∙ numbers_are ∙ sym whole) is)
 
+      -- all steps stand now, so its tables do
+      tables_made : NumberTables w.setup.tables e.0 (mirror_words c) (leaves_of r.pages (image_of w.setup r.image).pages)
+      tables_made = made_tables digest_of w k e.0 (ap is_free puts.state) c (λ at from before.
+          subst (λ i. HasBytes (page_bytes c.mirror) (page_put_at w.setup.tables e.0 (image_of w.setup i) r.pages at)) (sym puts.image_is)
+          (all_have at (subst (λ n. at < n) (sym all_done) (subst (λ i. at < length (image_of w.setup i).pages + 3) puts.image_is before))))
+
       allowed_done : AllowedAnswer w.setup s line (is_begun (under_at w.under hart)) answer_is.Ok
       allowed_done = subst (λ b. AllowedAnswer w.setup s line b answer_is.Ok) (sym begun) refl
 
@@ -345,6 +359,12 @@ module _ (digest_of : List ℕ → List ℕ) (tells : PageWritesTell digest_of) 
           (λ own is. absurd (idle_put_none _ own is))
           tt
           (λ f is. absurd (none_some f _ (idle_has_none _) is))
+          (record {
+            keeps = λ live. absurd (false≢true (sym not_live ∙ live));
+            tables = λ level live low. absurd (false≢true (sym not_live ∙ live));
+            made = λ was live. tables_made;
+          })
+          w.tlbs (idle_translates digest_of w hart c (in_state w.enclaves e.0 state_is.Fresh) _ k)
 
   -- ---- a place that doesn't hold
 
@@ -408,6 +428,7 @@ module _ (digest_of : List ℕ → List ℕ) (tells : PageWritesTell digest_of) 
         (λ own is. absurd (idle_put_none _ own is))
         tt
         (λ f is. absurd (none_some f _ (idle_has_none _) is))
+        (never_live w e.0 c r_faulted n_faulted not_live not_live) w.tlbs (idle_translates digest_of w hart c (in_state w.enclaves e.0 state_is.Faulted) _ k)
 
     -- the controller has changed, and nothing else
     left_kept : Kept digest_of (record w { ctl = c })
@@ -421,6 +442,9 @@ module _ (digest_of : List ℕ → List ℕ) (tells : PageWritesTell digest_of) 
         (back (λ l u. LineUnderWay w.setup (page_bytes c.mirror) (enclave_at w.enclaves) s.number hart l u)
         (record { state = puts.state; image_is = puts.image_is; pages_are = puts.pages_are; few = puts.few; put = stays_put c leaves stays }))
         (λ f is. some_same f e.0 (sym is ∙ under_way))
+        (never_live w e.0 c r n not_live not_live) w.tlbs
+        (keeps_tlbs digest_of w hart c w.enclaves (hart_line w hart) (under_at w.under hart) k (ap isnt_removing so_far)
+        (back (λ l u. WalkingStands c (IsFresh w.setup s w.fences hart) (walking w.setup.tables (enclave_at w.enclaves) l u)) tt))
 
   -- ---- the event, by what the access answered
 

@@ -5,8 +5,10 @@ use Rattle.std.specs.Prelude.{Contains}
 use Rattle.mem_ctl.specs.Data.{CtlData}
 use Rattle.mem_ctl.specs.TreesHold.{IsKept}
 use Rattle.mem_geom.specs.Parts.{page_bytes}
+use Rattle.rv_tlb.specs.declared.tlb.TlbEntry.{TlbEntry}
 use Rattle.mon_enclave.specs.declared.enclave.Enclave.{Enclave}
 use Rattle.mon_enclave.specs.Records.{enclave_at}
+use Rattle.mon_fence.specs.declared.fences.Fence.{Fence}
 use Rattle.mon_owner.specs.declared.owners.Owner.{Owner}
 use Rattle.mon_owner.specs.declared.owners.Owner.TheVariants.{Guard}
 use Rattle.pl_history.specs.declared.line.Line.{Line}
@@ -19,15 +21,16 @@ use Rattle.world_machine.specs.EnclavesAgree.{EnclavesAgree}
 use Rattle.world_machine.specs.LinesUnderWay.{LineUnderWay, NumbersApart, number_under_way}
 use Rattle.world_machine.specs.RecordsAgree.{OwnersAgree, RecordsAgree}
 use Rattle.world_machine.specs.Sizes.{HasSizes}
+use Rattle.world_machine.specs.TranslationsAgree.{TranslationsStand}
 use Rattle.world_machine.specs.Standing.{CollisionStands, IsCollision, Kept, Stands, state_of}
 use Rattle.world_machine.specs.Worlds.{CollisionData, WorldData, answered_at, hart_line, under_at}
 use Rattle.world_machine.proofs.Lists.{everywhere}
 use Rattle.world_machine.proofs.LineMoves.{LineMoves, progress_agrees}
 
 -- the parts of a world that an event may change
-abbrev pub with_parts : WorldData → CtlData → List Owner → List Enclave → List Under → List ℕ → HistoryData → WorldData
-with_parts w ctl owners enclaves under answered history =
-    record w { ctl = ctl; owners = owners; enclaves = enclaves; under = under; answered = answered; history = history }
+abbrev pub with_parts : WorldData → CtlData → List Owner → List Enclave → List (List TlbEntry) → List (Option Fence) → List Under → List ℕ → HistoryData → WorldData
+with_parts w ctl owners enclaves tlbs fences under answered history =
+    record w { ctl = ctl; owners = owners; enclaves = enclaves; tlbs = tlbs; fences = fences; under = under; answered = answered; history = history }
 
 -- the lists keep their lengths, and guarded pages stay guarded
 pub record SameSizes (setup : SetupParts) (old new : CtlData) (owners owners' : List Owner) (enclaves enclaves' : List Enclave) : Type 0 where
@@ -46,8 +49,8 @@ line_after w answered hart = slice_get (script_of w.setup hart) (answered_at ans
 
 -- What is known of an event: s is the state that the history gives after it, u how far the actor's line is, and count how many of the
 -- actor's lines are answered.
-pub record RowFacts (digest_of : List ℕ → List ℕ) (w : WorldData) (actor : ℕ) (ctl : CtlData) (owners : List Owner) (enclaves : List Enclave) (under : List Under) (answered : List ℕ)
-    (history : HistoryData) (s : Monitor) (u : Under) (count : ℕ) : Type 0 where
+pub record RowFacts (digest_of : List ℕ → List ℕ) (w : WorldData) (actor : ℕ) (ctl : CtlData) (owners : List Owner) (enclaves : List Enclave)
+    (tlbs : List (List TlbEntry)) (fences : List (Option Fence)) (under : List Under) (answered : List ℕ) (history : HistoryData) (s : Monitor) (u : Under) (count : ℕ) : Type 0 where
   pub line : LineMoves w actor under answered history s u count
   pub sizes : SameSizes w.setup w.ctl ctl w.owners owners w.enclaves enclaves
   pub trees : IsKept digest_of ctl
@@ -60,19 +63,20 @@ pub record RowFacts (digest_of : List ℕ → List ℕ) (w : WorldData) (actor :
   pub own_line : LineUnderWay w.setup (page_bytes ctl.mirror) (enclave_at enclaves) s.number actor (slice_get (script_of w.setup actor) count) u
   pub own_apart : (hart e : ℕ) → hart ≢ actor → number_under_way (slice_get (script_of w.setup actor) count) u ≡ Some e
       → number_under_way (hart_line w hart) (under_at w.under hart) ≡ Some e → ⊥
+  pub translations : TranslationsStand w.setup ctl tlbs fences (enclave_at enclaves) s (line_after w answered) (under_at under)
 
-module _ (digest_of : List ℕ → List ℕ) (w : WorldData) (actor : ℕ) (ctl : CtlData) (owners : List Owner) (enclaves : List Enclave) (under : List Under) (answered : List ℕ)
-    (history : HistoryData) (s : Monitor) (u : Under) (count : ℕ) (k : Kept digest_of w) (none : w.collision ≡ None)
-    (f : RowFacts digest_of w actor ctl owners enclaves under answered history s u count) where
+module _ (digest_of : List ℕ → List ℕ) (w : WorldData) (actor : ℕ) (ctl : CtlData) (owners : List Owner) (enclaves : List Enclave)
+    (tlbs : List (List TlbEntry)) (fences : List (Option Fence)) (under : List Under) (answered : List ℕ) (history : HistoryData) (s : Monitor) (u : Under) (count : ℕ) (k : Kept digest_of w) (none : w.collision ≡ None)
+    (f : RowFacts digest_of w actor ctl owners enclaves tlbs fences under answered history s u count) where
   abbrev new : WorldData
-  new = with_parts w ctl owners enclaves under answered history
+  new = with_parts w ctl owners enclaves tlbs fences under answered history
 
   sizes : HasSizes w.setup ctl owners enclaves under answered
   sizes = record {
     rules = k.sizes.rules;
     built = k.sizes.built;
     bytes = k.sizes.bytes;
-    budgets = k.sizes.budgets;
+    lines_fit = k.sizes.lines_fit;
     zones = f.sizes.zones ∙ k.sizes.zones;
     slots = f.sizes.slots ∙ k.sizes.slots;
     pages = f.sizes.pages ∙ k.sizes.pages;
@@ -136,9 +140,10 @@ module _ (digest_of : List ℕ → List ℕ) (w : WorldData) (actor : ℕ) (ctl 
     attacks = f.attacks;
     lines = lines;
     apart = numbers_apart;
+    translations = f.translations;
   }
 
-  pub row_kept : Kept digest_of (with_parts w ctl owners enclaves under answered history)
+  pub row_kept : Kept digest_of (with_parts w ctl owners enclaves tlbs fences under answered history)
   row_kept = record {
     sizes = sizes;
     trees = f.trees;
@@ -167,6 +172,7 @@ beside_kept digest_of w o moves k is = record {
     attacks = k.stands.attacks;
     lines = k.stands.lines;
     apart = k.stands.apart;
+    translations = k.stands.translations;
   };
   collision = is;
 }

@@ -1,5 +1,5 @@
 -- The fetch of an instruction keeps what a world keeps.
-use Rattle.std.proofs.Common.{◌≡◌, ℕ, ◌%◌, ◌<◌, Bool, List, length, slice_get, Option, Some, None, refl, sym, ap, ◌∙◌, subst, arith}
+use Rattle.std.proofs.Common.{◌≡◌, ℕ, ◌%◌, ◌<◌, Bool, List, length, slice_get, Option, Some, None, sym, ap, ◌∙◌, subst, arith, inl}
 use Rattle.pl_base.specs.declared.access.Kind.TheVariants as kind
 use Rattle.pl_base.specs.declared.number.EncNo.{EncNo}
 use Rattle.pl_base.specs.declared.state.Why.TheVariants as why_is
@@ -17,7 +17,6 @@ use Rattle.rv_alone.specs.Flat.{fetched}
 use Rattle.rv_hart.specs.declared.walks.Micro.{Micro}
 use Rattle.world_attack.specs.Room.{RoomStays}
 use Rattle.world_machine.specs.declared.under.Under.TheVariants.{Running}
-use Rattle.world_machine.specs.Making.{image_of}
 use Rattle.world_machine.specs.Pages.{fault_cause, flat_pages, located, numbers_of, part_of_word, word_offset}
 use Rattle.world_machine.specs.Running.{RunNow, acts, fetched_in}
 use Rattle.world_machine.specs.Standing.{Kept}
@@ -73,23 +72,18 @@ module _ (digest_of : List ℕ → List ℕ) (room_stays : RoomStays) (reads : R
       (fetched_over image now.image (page_bytes w.ctl.mirror) (page_bytes ctl.mirror) r word (act_of r.context word) (one_image w.setup.images r.image image now.image old.image_is now.image_is) (same image)
       (live_fetched image w.ctl.mirror r (alone_so digest_of room_stays w k none hart below first e budget count micro here under there).live page eight at is))
 
-  fetch_by : (o : Option ℕ) → located kind.Fetch image.pages (numbers_of r.pages) r.context.pc ≡ o → Kept digest_of (fetched_in digest_of w run r positions o).world
-  fetch_by None at =
+  -- the fetch in the page that is located, or none
+  pub fetch_kept : (o : Option ℕ) → located kind.Fetch image.pages (numbers_of r.pages) r.context.pc ≡ o → Kept digest_of (fetched_in digest_of w run r positions o).world
+  fetch_kept None at =
       stops_kept digest_of room_stays w k none hart below first e budget count micro here under there (why_is.Trapped (fault_cause kind.Fetch) r.context.pc)
       (fetch_stops image w.ctl.mirror r (alone_so digest_of room_stays w k none hart below first e budget count micro here under there).live 0 at)
-  fetch_by (Some page) at =
+  fetch_kept (Some page) at =
       let call : After ℕ = read_word_of digest_of page (word_offset r.context.pc) (going w.ctl positions) in
       let among = located_among kind.Fetch image.pages (numbers_of r.pages) r.context.pc page at in
       let says = told digest_of room_stays reads w k none hart below first e budget count micro here under there positions page (word_offset r.context.pc)
-      (offset_inside r.context.pc) (offset_aligned r.context.pc) among in
+      (offset_inside r.context.pc) (offset_aligned r.context.pc) (inl among) in
       read_event digest_of room_stays reads w k none hart below first e budget count micro here under there positions page (word_offset r.context.pc)
-      (offset_inside r.context.pc) (offset_aligned r.context.pc) among
+      (offset_inside r.context.pc) (offset_aligned r.context.pc) (inl among)
       (λ eight. acts (record w { ctl = call.after.ctl }) run r (part_of_word eight r.context.pc 4) (act_of r.context (part_of_word eight r.context.pc 4)))
       (λ eight is stay kept. acts_left page at call.after.ctl kept eight is
       (λ i. same_bytes digest_of room_stays w k none hart below first e budget count micro here under there call.after.ctl says.leaves stay i.pages))
-
-  pub fetch_kept : Kept digest_of (fetched_in digest_of w run r positions (located kind.Fetch (image_of w.setup r.image).pages (numbers_of r.pages) r.context.pc)).world
-  fetch_kept =
-      subst (λ (i : Image). Kept digest_of (fetched_in digest_of w run r positions (located kind.Fetch i.pages (numbers_of r.pages) r.context.pc)).world)
-      (sym (alone_so digest_of room_stays w k none hart below first e budget count micro here under there).image_is)
-      (fetch_by (located kind.Fetch image.pages (numbers_of r.pages) r.context.pc) refl)

@@ -1,5 +1,5 @@
 -- A load keeps what a world keeps.
-use Rattle.std.proofs.Common.{◌≡◌, ℕ, ◌<◌, Bool, List, length, Option, Some, None, sym, ap, ◌∙◌}
+use Rattle.std.proofs.Common.{◌≡◌, ℕ, ◌<◌, Bool, List, length, Option, Some, None, sym, ap, ◌∙◌, inl}
 use Rattle.pl_base.specs.declared.access.Kind.TheVariants as kind
 use Rattle.pl_base.specs.declared.number.EncNo.{EncNo}
 use Rattle.pl_base.specs.declared.state.Why.TheVariants as why_is
@@ -64,9 +64,9 @@ module _ (digest_of : List ℕ → List ℕ) (room_stays : RoomStays) (reads : R
         let call : After ℕ = read_word_of digest_of page (word_offset address) (going w.ctl positions) in
         let among = located_among kind.Load image.pages (numbers_of r.pages) address page at in
         let says = told digest_of room_stays reads w k none hart below first e budget count micro here under there positions page (word_offset address)
-        (offset_inside address) (offset_aligned address) among in
+        (offset_inside address) (offset_aligned address) (inl among) in
         read_event digest_of room_stays reads w k none hart below first e budget count micro here under there positions page (word_offset address)
-        (offset_inside address) (offset_aligned address) among
+        (offset_inside address) (offset_aligned address) (inl among)
         (λ eight. retires (record w { ctl = call.after.ctl }) run (retired_with r (loaded r.context rd width is_signed (part_of_word eight address width))))
         (λ eight eight_is stay kept.
         let now : Enclave = retired_with r (loaded r.context rd width is_signed (part_of_word eight address width)) in

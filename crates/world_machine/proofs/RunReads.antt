@@ -1,6 +1,5 @@
--- The events of a run that read a word through the trees: the fetch, and the load.
-use Rattle.std.proofs.Common.{◌≡◌, ℕ, ◌/◌, ◌%◌, ◌<◌, Bool, List, length, Some, None, arith}
-use Rattle.std.specs.Prelude.{Contains}
+-- The events of a run that read a word through the trees: a word of a table, the fetch, and the load.
+use Rattle.std.proofs.Common.{◌≡◌, ℕ, ◌*◌, ◌/◌, ◌%◌, ◌<◌, Bool, List, length, Some, None, sym, subst, arith, inl, inr}
 use Rattle.std.proofs.lemmas.List.Elements.{All-contains}
 use Rattle.pl_base.specs.declared.number.EncNo.{EncNo}
 use Rattle.mem_geom.specs.PathPlaces.{word_places}
@@ -25,13 +24,14 @@ use Rattle.world_machine.specs.Worlds.{WorldData, hart_line, under_at}
 use Rattle.world_machine.proofs.NumberRows.{owned_within}
 use Rattle.world_machine.proofs.RunAccesses.{read_kept}
 use Rattle.world_machine.proofs.RunMoves.{run_line}
-use Rattle.world_machine.proofs.RunOutcomes.{outcome_kept}
+use Rattle.world_machine.proofs.RunOutcomes.{IsOfRun, outcome_kept}
 use Rattle.world_machine.proofs.RunRows.{standing}
+use Rattle.world_machine.proofs.TranslationFrames.{number_table_inside}
 
 module _ (digest_of : List ℕ → List ℕ) (room_stays : RoomStays) (reads : ReadsTell digest_of) (w : WorldData) (k : Kept digest_of w) (none : w.collision ≡ None) (hart : ℕ) (below : hart < w.setup.harts)
     (first : Bool) (e : EncNo) (budget count : ℕ) (micro : Micro) (here : hart_line w hart ≡ Some (run_line first e budget)) (under : under_at w.under hart ≡ Running micro count)
     (there : e.0 < length w.enclaves) (positions : List ℕ) (page offset : ℕ) (inside : offset < 4096) (aligned : offset % 8 ≡ 0)
-    (own : Contains (numbers_of (enclave_at w.enclaves e.0).pages) page) where
+    (of_run : IsOfRun w e.0 page) where
   abbrev s : Monitor
   s = state_of w
 
@@ -50,11 +50,14 @@ module _ (digest_of : List ℕ → List ℕ) (room_stays : RoomStays) (reads : R
   abbrev left : WorldData
   left = record w { ctl = ctl }
 
-  page_own : IsOwn w.owners e.0 page
-  page_own = All-contains (IsOwn w.owners e.0) (numbers_of r.pages) page (standing digest_of room_stays w k none hart below first e budget count micro here under there).owned own
+  page_inside : IsOfRun w e.0 page → page < 64 * w.ctl.zones
+  page_inside (inl own) =
+      owned_within digest_of w k page (owner_is.Enclave (record { 0 = e.0 }))
+      (All-contains (IsOwn w.owners e.0) (numbers_of r.pages) page (standing digest_of room_stays w k none hart below first e budget count micro here under there).owned own)
+  page_inside (inr (level, low, is)) = subst (λ p. p < 64 * w.ctl.zones) (sym is) (number_table_inside digest_of w k e.0 level (subst (λ size. e.0 < size) k.sizes.numbers there))
 
   pub told : Accessed digest_of (word_places page (offset / 64)) (WordIsRead page offset w.ctl ctl) w.ctl call.outcome ctl
-  told = reads page offset (going w.ctl positions) k.trees (owned_within digest_of w k page (owner_is.Enclave (record { 0 = e.0 })) page_own) inside aligned
+  told = reads page offset (going w.ctl positions) k.trees (page_inside of_run) inside aligned
 
   left_kept : BothStay w.ctl ctl → Kept digest_of left
   left_kept stay = read_kept digest_of room_stays w k none hart below first e budget count micro here under there ctl told.leaves stay
@@ -65,5 +68,5 @@ module _ (digest_of : List ℕ → List ℕ) (room_stays : RoomStays) (reads : R
   -- a word is read: what follows, a fault of a place that may fault, or a collision
   pub read_event : (then : ℕ → WorldData) → ((eight : ℕ) → eight ≡ word_at w.ctl.mirror page offset → BothStay w.ctl ctl → Kept digest_of left → Kept digest_of (then eight))
       → Kept digest_of (decided left then (faults run r left) call.outcome)
-  read_event then after = outcome_kept digest_of room_stays w k none hart below first e budget count micro here under there page (offset / 64) few own ctl told.leaves
+  read_event then after = outcome_kept digest_of room_stays w k none hart below first e budget count micro here under there page (offset / 64) few of_run ctl told.leaves
       (WordIsRead page offset w.ctl ctl) then (λ eight is. after eight is.as_written is.pages (left_kept is.pages)) call.outcome told.tells

@@ -1,9 +1,10 @@
 -- The rows of a run under way that need no access of their own: an instruction retires, the run goes on or leaves.
-use Rattle.std.proofs.Common.{◌≡◌, ◌≢◌, ℕ, ◌+◌, ◌<◌, eqb, Bool, true, false, cond, List, length, slice_get, set, Some, None, option_map, refl, sym, ap, ◌∙◌, subst, arith}
-use Rattle.std.specs.Prelude.{IsTrue, slice_set}
+use Rattle.std.proofs.Common.{◌≡◌, ◌≢◌, ℕ, ◌+◌, ◌<◌, eqb, Bool, true, false, cond, List, length, slice_get, set, Option, Some, None, option_map, refl, sym, ap, ◌∙◌, subst, arith}
+use Rattle.std.specs.Prelude.{slice_set}
 use Rattle.std.proofs.lemmas.Bool.{eqb-true, eqb-false}
 use Rattle.std.proofs.lemmas.List.{set-get_or}
 use Rattle.std.proofs.lemmas.Option.{unwrap_or-slice_get}
+use Rattle.pl_base.specs.declared.access.Kind.{Kind}
 use Rattle.pl_base.specs.declared.number.EncNo.{EncNo}
 use Rattle.pl_base.specs.declared.place.Place.{Place}
 use Rattle.pl_base.specs.declared.state.Why.{Why}
@@ -14,6 +15,7 @@ use Rattle.mem_geom.specs.Parts.{page_bytes}
 use Rattle.mon_enclave.specs.declared.enclave.Enclave.{Enclave}
 use Rattle.mon_enclave.specs.Records.{enclave_at, free_enclave, with_enclave}
 use Rattle.rv_alone.specs.declared.step.Act.{Act}
+use Rattle.rv_alone.specs.Effect.{act_of}
 use Rattle.rv_alone.specs.Flat.{ended}
 use Rattle.rv_alone.specs.Alone.{alone}
 use Rattle.rv_hart.specs.declared.walks.Micro.{Micro}
@@ -30,10 +32,12 @@ use Rattle.world_machine.specs.declared.under.Under.TheVariants.{Idle, Running}
 use Rattle.world_machine.specs.Answering.{goes_on}
 use Rattle.world_machine.specs.BytesAgree.{HasPut}
 use Rattle.world_machine.specs.EnclavesAgree.{EnclaveStands}
-use Rattle.world_machine.specs.LinesUnderWay.{IsRunning, LineUnderWay, has_data, number_under_way}
+use Rattle.world_machine.specs.LinesUnderWay.{IsRunning, LineUnderWay, access_of, number_under_way}
 use Rattle.world_machine.specs.RecordsAgree.{RecordAgrees, is_begun}
 use Rattle.world_machine.specs.Running.{RunNow, acts, fetches_next, leaves, retired_with, retires}
 use Rattle.world_machine.specs.Standing.{Kept, state_of, written_page}
+use Rattle.world_machine.specs.Translating.{number_view}
+use Rattle.world_machine.specs.TranslationsAgree.{IsFresh, WalkingStands, walking, walking_of}
 use Rattle.world_machine.specs.Worlds.{WorldData, answered_at, hart_line, under_at}
 use Rattle.world_machine.proofs.InstructionWays.{GoesBy, Stops, Way, acts_is, ends, goes_by, goes_on_with, seeks, stops, way_of, world_by}
 use Rattle.world_machine.proofs.Instructions.{IsFetched, Retires, flat_of}
@@ -41,9 +45,9 @@ use Rattle.world_machine.proofs.LeavingRuns.{IsCounted, leaves_ended, leaves_fau
 use Rattle.world_machine.proofs.LineKinds.{answered_line, goes_on_line}
 use Rattle.world_machine.proofs.Lists.{changed_set}
 use Rattle.world_machine.proofs.LiveEnclaves.{IsLive, live_more}
-use Rattle.world_machine.proofs.NumberRows.{becomes_answered, becomes_same}
+use Rattle.world_machine.proofs.NumberRows.{becomes_answered, becomes_same, idle_translates, keeps_tlbs}
 use Rattle.world_machine.proofs.QuietRows.{idle_has_none, idle_put_none, none_some}
-use Rattle.world_machine.proofs.RunMoves.{AfterAccess, is_running, left_gives, may_leave, no_access, no_put, run_line, run_moved, running_is, runs_number}
+use Rattle.world_machine.proofs.RunMoves.{AfterAccess, is_running, left_gives, may_leave, no_access, no_put, run_line, run_moved, run_walking, running_is, runs_number}
 use Rattle.world_machine.proofs.RunningEnclaves.{RunsAlone, records_ended, records_left, records_retired, running_more, running_reaches, runs_alone}
 use Rattle.world_machine.proofs.StandingEnclaves.{counted_more, left_number, left_record, stands_ended, stands_left, stands_retired}
 
@@ -62,7 +66,7 @@ module _ (digest_of : List ℕ → List ℕ) (room_stays : RoomStays) (w : World
   abbrev run : RunNow
   run = record { hart = hart; e = e.0; budget = budget; count = count }
 
-  running : IsRunning w.setup (written_page w) r n hart budget count micro
+  pub running : IsRunning w.setup (written_page w) r n hart budget count micro
   running = is_running w.setup (written_page w) (enclave_at w.enclaves) s.number hart budget count micro e first
       (subst (LineUnderWay w.setup (written_page w) (enclave_at w.enclaves) s.number hart (Some (run_line first e budget))) under
       (subst (λ l. LineUnderWay w.setup (written_page w) (enclave_at w.enclaves) s.number hart l (under_at w.under hart)) here (k.stands.lines hart)))
@@ -90,13 +94,14 @@ module _ (digest_of : List ℕ → List ℕ) (room_stays : RoomStays) (w : World
   module _ (ctl : CtlData) (access : AfterAccess digest_of w e.0 ctl) where
     going : (now : Enclave) (micro' : Micro) (count' : ℕ) → RecordAgrees now n → EnclaveStands w.setup (page_bytes ctl.mirror) w.owners e.0 now n
         → IsRunning w.setup (page_bytes ctl.mirror) now n hart budget count' micro'
+        → WalkingStands ctl (IsFresh w.setup s w.fences hart) (walking_of w.setup.tables e.0 now micro')
         → Kept digest_of (goes_on (record w { ctl = ctl; enclaves = with_enclave w.enclaves e.0 now }) hart (Running micro' count'))
-    going now micro' count' agree stands runs_on =
+    going now micro' count' agree stands runs_on walk =
         let u : Under = Running micro' count' in
         let enclaves' : List Enclave = with_enclave w.enclaves e.0 now in
         let is_now : enclave_at enclaves' e.0 ≡ now = (changed_set free_enclave w.enclaves e.0 now there).here in
         run_moved digest_of w k none hart e.0 there runs ctl access now n s
-        (becomes_same s e.0) refl refl agree stands
+        (becomes_same s e.0) refl refl refl agree stands
         (slice_set w.under hart u) w.answered w.history u (answered_at w.answered hart) (goes_on_line digest_of room_stays w k hart below u (sym begun))
         (subst (λ l. LineUnderWay w.setup (page_bytes ctl.mirror) (enclave_at enclaves') s.number hart l u) (sym here)
         (running_is w.setup (page_bytes ctl.mirror) (enclave_at enclaves') s.number hart budget count' micro' e first
@@ -104,6 +109,11 @@ module _ (digest_of : List ℕ → List ℕ) (room_stays : RoomStays) (w : World
         (λ f own. let own_is : number_under_way (hart_line w hart) u ≡ Some e.0 = ap (λ l. number_under_way l u) here ∙ runs_number first e budget count' micro' in
         let h : Some f ≡ Some e.0 = sym own ∙ own_is in cc)
         (λ page put. no_put first e budget count' page micro' (subst (λ l. HasPut l u page) here put))
+        w.tlbs
+        (keeps_tlbs digest_of w hart ctl enclaves' (hart_line w hart) u k refl
+        (subst (λ l. WalkingStands ctl (IsFresh w.setup s w.fences hart) (walking w.setup.tables (enclave_at enclaves') l u)) (sym here)
+        (subst (WalkingStands ctl (IsFresh w.setup s w.fences hart)) (sym (run_walking w.setup.tables (enclave_at enclaves') first e budget count' micro'))
+        (subst (λ x. WalkingStands ctl (IsFresh w.setup s w.fences hart) (walking_of w.setup.tables e.0 x micro')) (sym is_now) walk))))
 
     -- ---- the run leaves
 
@@ -114,11 +124,12 @@ module _ (digest_of : List ℕ → List ℕ) (room_stays : RoomStays) (w : World
     leaving why now count' agree stands may =
         let s' : Monitor = answer (left s e.0 count' why) hart in
         run_moved digest_of w k none hart e.0 there runs ctl access (left_record now why) (left_number n count' why) s'
-        (becomes_answered s e.0 hart (left_number n count' why)) refl refl agree stands _ _ _ Idle (answered_at w.answered hart + 1)
+        (becomes_answered s e.0 hart (left_number n count' why)) refl refl refl agree stands _ _ _ Idle (answered_at w.answered hart + 1)
         (answered_line digest_of room_stays w k hart below (run_line first e budget) (answer_is.Left count' why) refl here
         (subst (λ b. AllowedAnswer w.setup s (run_line first e budget) b (answer_is.Left count' why)) (sym begun) (may_leave w.setup s first e budget count' why (flat_image standing.image, image_is, may)))
         (left s e.0 count' why) (λ actor. refl) (left_gives s hart first e budget count' why))
         tt (λ f own. absurd (none_some f _ (idle_has_none _) own)) (λ page put. idle_put_none _ page put)
+        w.tlbs (idle_translates digest_of w hart ctl (with_enclave w.enclaves e.0 (left_record now why)) _ k)
 
     -- ---- an instruction retires, over the bytes of pages after the access
 
@@ -156,6 +167,7 @@ module _ (digest_of : List ℕ → List ℕ) (room_stays : RoomStays) (w : World
       retire_by false left_over =
           going now (Fetching Start) (count + 1) agrees_now stands_now
           (running_more w.setup standing.image (page_bytes w.ctl.mirror) (page_bytes ctl.mirror) r now n hart budget count micro running steps (more_left running.within (eqb-false (count + 1) budget left_over)))
+          tt
 
       pub retires_kept : Kept digest_of (retires (record w { ctl = ctl }) run now)
       retires_kept = retire_by (eqb (count + 1) budget) refl
@@ -190,17 +202,25 @@ module _ (digest_of : List ℕ → List ℕ) (room_stays : RoomStays) (w : World
   same_records : with_enclave w.enclaves e.0 r ≡ w.enclaves
   same_records = ap (set w.enclaves e.0) (unwrap_or-slice_get w.enclaves e.0 free_enclave) ∙ set-get_or w.enclaves e.0 free_enclave
 
-  seeks_kept : (word : ℕ) (act : Act) → IsFetched standing.image.pages (page_bytes w.ctl.mirror) r word act → IsTrue (has_data act) → Kept digest_of (goes_on w hart (Running (Reaching word Start) count))
-  seeks_kept word act is data_is =
+  -- a walk to the data that hasn't begun
+  walk_starts : (access : Option (Kind × ℕ)) → WalkingStands w.ctl (IsFresh w.setup s w.fences hart)
+      (option_map (λ (a : Kind × ℕ). record { view = number_view w.setup.tables e.0; va = record { 0 = a.1 }; walk = Start }) access)
+  walk_starts None = tt
+  walk_starts (Some access) = tt
+
+  seeks_kept : (word : ℕ) (act : Act) → IsFetched standing.image.pages (page_bytes w.ctl.mirror) r word act → (access : Kind × ℕ) → access_of act ≡ Some access
+      → Kept digest_of (goes_on w hart (Running (Reaching word Start) count))
+  seeks_kept word act is access access_is =
       subst (λ (all : List Enclave). Kept digest_of (goes_on (record w { enclaves = all }) hart (Running (Reaching word Start) count))) same_records
       (going w.ctl still r (Reaching word Start) count agrees standing
-      (running_reaches w.setup (written_page w) standing.image r n hart budget count word micro running alone_so.image_is is.word_is (subst (λ x. IsTrue (has_data x)) (sym is.act_is) data_is)))
+      (running_reaches w.setup (written_page w) standing.image r n hart budget count word micro running alone_so.image_is is.word_is access (ap access_of is.act_is ∙ access_is))
+      (walk_starts (access_of (act_of r.context word))))
 
   by_way : (word : ℕ) (act : Act) (way : Way) → IsFetched standing.image.pages (page_bytes w.ctl.mirror) r word act → GoesBy standing.image w.ctl.mirror r act way → Kept digest_of (world_by w run r word way)
   by_way word act (goes_on_with now) is steps = retires_kept w.ctl still now steps
   by_way word act (stops why) is stopped = stops_kept why stopped
   by_way word act (ends code) is over = ends_kept code over
-  by_way word act seeks is data_is = seeks_kept word act is data_is
+  by_way word act seeks is access = seeks_kept word act is access.0 access.1
 
   -- a fetched instruction is done, or its data is sought
   pub acts_kept : (word : ℕ) (act : Act) → IsFetched standing.image.pages (page_bytes w.ctl.mirror) r word act → Kept digest_of (acts w run r word act)

@@ -1,5 +1,5 @@
 -- A store keeps what a world keeps.
-use Rattle.std.proofs.Common.{◌≡◌, ℕ, ◌*◌, ◌/◌, ◌%◌, ◌<◌, eqb, if◌then◌else◌, Bool, List, length, Option, Some, None, ◌∙◌, inl, arith}
+use Rattle.std.proofs.Common.{◌≡◌, ℕ, ◌*◌, ◌/◌, ◌%◌, ◌<◌, eqb, if◌then◌else◌, Bool, List, length, Option, Some, None, ◌∙◌, subst, inl, arith}
 use Rattle.std.specs.Prelude.{Contains}
 use Rattle.std.specs.List.{All}
 use Rattle.std.proofs.lemmas.List.Elements.{All-contains}
@@ -34,7 +34,7 @@ use Rattle.world_machine.proofs.Instructions.{IsFetched}
 use Rattle.world_machine.proofs.LiveEnclaves.{IsLive, act_access, live_store}
 use Rattle.world_machine.proofs.Lists.{if_other, if_same}
 use Rattle.world_machine.proofs.NumberRows.{but_changed, owned_within}
-use Rattle.world_machine.proofs.RunMoves.{run_line}
+use Rattle.world_machine.proofs.RunMoves.{own_access, run_line}
 use Rattle.world_machine.proofs.RunOutcomes.{outcome_kept}
 use Rattle.world_machine.proofs.WordParts.{stays_in_word}
 use Rattle.world_machine.proofs.RunRows.{alone_so, retires_kept, standing, stops_kept}
@@ -87,17 +87,13 @@ module _ (digest_of : List ℕ → List ℕ) (room_stays : RoomStays) (writes : 
         let block_few : address % 4096 / 64 < 64 = omega arith in
         let part_aligned : address % 4096 % width ≡ 0 = (stays_in_word address width is_access.0 is_access.1).in_part in
         let told = writes page (address % 4096) width value (going w.ctl positions) k.trees inside (omega arith) is_access.0 part_aligned in
-        outcome_kept digest_of room_stays w k none hart below first e budget count micro here under there page (address % 4096 / 64) block_few among ctl told.leaves
+        outcome_kept digest_of room_stays w k none hart below first e budget count micro here under there page (address % 4096 / 64) block_few (inl among) ctl told.leaves
         (λ _. BothChange page (λ bytes. with_bytes bytes (address % 4096) (little_bytes width value)) w.ctl ctl)
         (λ _. retires (record w { ctl = ctl }) run now)
         (λ _ both.
         retires_kept digest_of room_stays w k none hart below first e budget count micro here under there ctl
-        (record {
-          leaves = told.leaves;
-          page = page;
-          of_number = inl page_own;
-          stay = but_changed page (λ bytes. with_bytes bytes (address % 4096) (little_bytes width value)) w.ctl ctl both;
-        })
+        (own_access digest_of w e.0 page ctl k (subst (λ size. e.0 < size) k.sizes.numbers there) told.leaves page_own
+        (but_changed page (λ bytes. with_bytes bytes (address % 4096) (little_bytes width value)) w.ctl ctl both))
         now
         (live_store image w.ctl.mirror r live ctl.mirror word address width value page is at
         (stores_into (page_bytes w.ctl.mirror) (page_bytes ctl.mirror) (numbers_of r.pages) w.ctl.zones page address width value both.mirror_pages inside

@@ -1,6 +1,6 @@
 -- A number whose run is under way: from what a world keeps to its live record, and back after an instruction.
 use Rattle.std.proofs.Common.{◌≡◌, ℕ, ◌+◌, ◌<◌, ◌≤◌, Bool, true, List, Some, refl, ap, sym, ◌∙◌, subst, arith}
-use Rattle.std.specs.Prelude.{IsTrue}
+use Rattle.pl_base.specs.declared.access.Kind.{Kind}
 use Rattle.pl_base.specs.declared.state.State.{State}
 use Rattle.pl_base.specs.declared.state.State.TheVariants as state_is
 use Rattle.pl_base.specs.declared.state.Why.{Why}
@@ -19,7 +19,7 @@ use Rattle.pl_history.specs.declared.setup.SetupParts.{SetupParts}
 use Rattle.pl_history.specs.Monitor.{Number}
 use Rattle.world_machine.specs.ByteBounds.{AreImageBytes}
 use Rattle.world_machine.specs.EnclavesAgree.{EnclaveStands}
-use Rattle.world_machine.specs.LinesUnderWay.{IsRunning, has_data}
+use Rattle.world_machine.specs.LinesUnderWay.{IsRunning, access_of}
 use Rattle.world_machine.specs.Making.{image_of}
 use Rattle.world_machine.specs.Pages.{flat_pages, numbers_of}
 use Rattle.world_machine.specs.RecordsAgree.{LiveAgrees, RecordAgrees, RetiredAgrees, parent_of}
@@ -37,7 +37,7 @@ pub record RunsAlone (setup : SetupParts) (memory : List ℕ) (image : Image) (r
   pub live : IsLive image memory r
   pub counted : IsCounted r n count
 
-on_live : (state : State) (live : Bool) → state ≡ state_is.On → LiveAgrees state live → live ≡ true
+pub on_live : (state : State) (live : Bool) → state ≡ state_is.On → LiveAgrees state live → live ≡ true
 on_live state live is agrees = subst (λ st. LiveAgrees st live) is agrees
 
 pub runs_alone : (setup : SetupParts) (memory : List ℕ) (owners : List Owner) (e : ℕ) (r : Enclave) (n : Number) (hart budget count : ℕ) (micro : Micro) (s : EnclaveStands setup (page_bytes memory) owners e r n) → AreImageBytes setup.images
@@ -84,7 +84,7 @@ running_more setup image before after r now n hart budget count micro running re
   hart_is = ap (λ (x : Enclave). x.hart.0) retires.kept ∙ running.hart_is;
   within = below;
   retired = one_more retires.retired running.retired;
-  instruction = refl;
+  instruction = tt;
 }
   where
     one_more : now.retired ≡ r.retired + 1 → r.retired ≡ n.retired + count → now.retired ≡ n.retired + (count + 1)
@@ -93,13 +93,16 @@ running_more setup image before after r now n hart budget count micro running re
 -- an instruction that loads or stores is fetched, and its data is sought
 pub running_reaches : (setup : SetupParts) (bytes_of : ℕ → List ℕ) (image : Image) (r : Enclave) (n : Number) (hart budget count word : ℕ) (micro : Micro)
     → IsRunning setup bytes_of r n hart budget count micro → image_of setup r.image ≡ image → fetched (flat_pages bytes_of image.pages (numbers_of r.pages)) r.context.pc ≡ Some word
-    → IsTrue (has_data (act_of r.context word)) → IsRunning setup bytes_of r n hart budget count (Reaching word Start)
-running_reaches setup bytes_of image r n hart budget count word micro running image_is is data_is = record {
+    → (access : Kind × ℕ) → access_of (act_of r.context word) ≡ Some access → IsRunning setup bytes_of r n hart budget count (Reaching word Start)
+running_reaches setup bytes_of image r n hart budget count word micro running image_is is access access_is = record {
   state = running.state;
   hart_is = running.hart_is;
   within = running.within;
   retired = running.retired;
-  instruction = (refl, subst (λ (i : Image). fetched (flat_pages bytes_of i.pages (numbers_of r.pages)) r.context.pc ≡ Some word) (sym image_is) is, data_is);
+  instruction = (
+    access,
+    record { word_is = subst (λ (i : Image). fetched (flat_pages bytes_of i.pages (numbers_of r.pages)) r.context.pc ≡ Some word) (sym image_is) is; access_is = access_is },
+  );
 }
 
 -- ---- the run leaves

@@ -1,6 +1,7 @@
 -- What a setup's rules say of a line of a script, of an image, and of the tables of enclave numbers.
-use Rattle.std.proofs.Common.{◌≡◌, ℕ, zero, suc, ◌<◌, ◌≤◌, ◌%◌, eqb, ltb, leb, Bool, true, false, ◌&&◌, List, [], ◌∷◌, length, slice_get, unwrap_or, Option, Some, None, refl, sym, ap, ◌∙◌, arith, inl, inr, ◌≢◌}
-use Rattle.std.specs.List.{list_all}
+use Rattle.std.proofs.Common.{◌≡◌, ℕ, zero, suc, ◌<◌, ◌≤◌, ◌%◌, eqb, ltb, leb, Bool, true, false, ◌&&◌, List, [], ◌∷◌, length, get_or, slice_get, unwrap_or, Option, Some, None, refl, sym, ap, ◌∙◌, arith, inl, inr, ◌≢◌}
+use Rattle.std.specs.List.{All, list_all}
+use Rattle.std.specs.Prelude.{IsTrue}
 use Rattle.std.proofs.lemmas.Bool.{and_parts, cases_Bool, eqb-true, leb-true, ltb-false, ltb-true}
 use Rattle.std.proofs.lemmas.Option.{slice_get-get_or, slice_get_past}
 use Rattle.pl_base.specs.declared.number.EncNo.{EncNo}
@@ -85,6 +86,14 @@ module _ (setup : SetupParts) (number : ℕ) (image : Image) (rules : IsSetup se
       let rest = (and_parts (is_entry (length image.pages) image.entry) (is_within 1 256 (length image.pages) && list_all is_page image.pages) image_holds).1 in
       let all = (and_parts (is_within 1 256 (length image.pages)) (list_all is_page image.pages) rest).1 in
       eqb-true (length page.bytes) 4096 (and_parts (are_page_perms page.perms) (eqb (length page.bytes) 4096) (each_holds is_page image.pages at page all stands)).1
+
+  -- and permissions that a page may have
+  pub image_perms : All (λ (page : ImagePage). IsTrue (are_page_perms page.perms)) image.pages
+  image_perms at none within =
+      let rest = (and_parts (is_entry (length image.pages) image.entry) (is_within 1 256 (length image.pages) && list_all is_page image.pages) image_holds).1 in
+      let all = (and_parts (is_within 1 256 (length image.pages)) (list_all is_page image.pages) rest).1 in
+      let page : ImagePage = get_or image.pages at none in
+      (and_parts (are_page_perms page.perms) (eqb (length page.bytes) 4096) (each_holds is_page image.pages at page all (slice_get-get_or image.pages at none within))).0
 
 -- ---- numbers
 

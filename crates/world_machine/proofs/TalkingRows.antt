@@ -1,40 +1,40 @@
 -- The rows of `send` and `take`.
-use Rattle.std.proofs.Common.{◌≡◌, ◌≢◌, ℕ, ◌+◌, ◌<◌, false, List, length, slice_get, Option, Some, None, refl, sym, ap, ◌∙◌, subst}
+use Rattle.std.proofs.Common.{◌≡◌, ◌≢◌, ℕ, ◌+◌, ◌<◌, false, List, [], length, slice_get, Option, Some, None, refl, sym, ap, ◌∙◌, subst}
 use Rattle.std.specs.Prelude.{slice_set}
 use Rattle.pl_base.specs.States.{is_free}
 use Rattle.rv_hart.specs.declared.walks.Micro.{Micro}
-use Rattle.rv_hart.specs.declared.walks.Micro.TheVariants as micro_is
-use Rattle.rv_alone.specs.declared.step.Context.{Context}
-use Rattle.rv_alone.specs.Effect.{act_of}
-use Rattle.rv_alone.specs.Flat.{fetched}
 use Rattle.pl_base.specs.declared.number.HartNo.{HartNo}
-use Rattle.std.specs.Prelude.{IsTrue}
 use Rattle.mon_life.specs.Pages.{page_put_at}
 use Rattle.world_machine.specs.Pages.{flat_pages, numbers_of}
 use Rattle.mon_enclave.specs.declared.enclave.Enclave.{Enclave}
 use Rattle.mon_enclave.specs.Records.{enclave_at, free_enclave, with_enclave}
 use Rattle.pl_history.specs.declared.answer.Answer.{Answer}
 use Rattle.pl_history.specs.declared.line.Line.{Line}
-use Rattle.pl_history.specs.declared.line.Line.TheVariants.{Create, Run, Resume}
+use Rattle.pl_history.specs.declared.line.Line.TheVariants.{Load, Store, Unmap, Create, Run, Resume}
 use Rattle.pl_history.specs.declared.setup.SetupParts.{SetupParts}
 use Rattle.pl_history.specs.History.{part_end}
 use Rattle.pl_history.specs.Legal.{AllowedAnswer, after_answer}
 use Rattle.pl_history.specs.Monitor.{Monitor, Number, answer, script_of, with_number}
 use Rattle.world_attack.specs.Room.{RoomStays}
 use Rattle.world_machine.specs.declared.under.Under.{Under}
-use Rattle.world_machine.specs.declared.under.Under.TheVariants.{Idle, Putting, Running}
+use Rattle.world_machine.specs.declared.under.Under.TheVariants.{Idle, Seeking, Removing, Putting, Running}
 use Rattle.world_machine.specs.Answering.{answers}
 use Rattle.world_machine.specs.BytesAgree.{HasPut}
-use Rattle.world_machine.specs.EnclavesAgree.{EnclaveStands}
-use Rattle.world_machine.specs.LinesUnderWay.{HasBytes, has_data, InstructionStands, IsRunning, LineUnderWay}
+use Rattle.world_machine.specs.EnclavesAgree.{EnclaveStands, EnclavesAgree}
+use Rattle.world_machine.specs.FencesStand.{removals_by}
+use Rattle.world_machine.specs.LinesUnderWay.{HasBytes, InstructionStands, IsRunning, LineUnderWay}
 use Rattle.world_machine.specs.Making.{image_of}
-use Rattle.world_machine.specs.RecordsAgree.{RecordAgrees, is_begun}
+use Rattle.world_machine.specs.RecordsAgree.{RecordAgrees, RecordsAgree, is_begun}
 use Rattle.world_machine.specs.Standing.{Kept, state_of, written_page}
+use Rattle.world_machine.specs.TranslationsAgree.{IsFresh, WalkingStands, walking}
 use Rattle.world_machine.specs.Worlds.{WorldData, answered_at, hart_line, under_at}
+use Rattle.world_machine.proofs.Frames.{instruction_stays}
 use Rattle.world_machine.proofs.LineKinds.{answered_line}
+use Rattle.world_machine.proofs.LineTranslations.{idle_walks, isnt_removing}
 use Rattle.world_machine.proofs.Lists.{ChangedAt, changed_set, everywhere, if_other, if_same}
 use Rattle.world_machine.proofs.QuietRows.{attacks_live, idle_has_none, idle_put_none, none_some}
 use Rattle.world_machine.proofs.RowKept.{line_after, row_kept}
+use Rattle.world_machine.proofs.TranslationFrames.{SpacesStay, entries_stay, translations_stay, written_stay}
 
 -- a record that differs in the words sent to it, or in how many were taken, alone
 pub record SameButWords (r r' : Enclave) : Type 0 where
@@ -53,15 +53,9 @@ module _ (setup : SetupParts) (bytes : ℕ → List ℕ) (rec rec' : ℕ → Enc
     (retired : (f : ℕ) → (number' f).retired ≡ (number f).retired) where
   instruction_words : (r r' : Enclave) (micro : Micro) → SameButWords r r' → InstructionStands (image_of setup r.image).pages bytes r micro
       → InstructionStands (image_of setup r'.image).pages bytes r' micro
-  instruction_words r r' (micro_is.Fetching walk) w k = k
-  instruction_words r r' (micro_is.Reaching word walk) w k = (
-    k.0,
-    ap (λ n. fetched (flat_pages bytes (image_of setup n).pages (numbers_of r'.pages)) r'.context.pc) w.image
-        ∙ ap (λ p. fetched (flat_pages bytes (image_of setup r.image).pages (numbers_of p)) r'.context.pc) w.pages
-        ∙ ap (λ (c : Context). fetched (flat_pages bytes (image_of setup r.image).pages (numbers_of r.pages)) c.pc) w.context ∙ k.1,
-    subst (λ c. IsTrue (has_data (act_of c word))) (sym w.context) k.2,
-  )
-  instruction_words r r' (micro_is.Faulting va kind) w k = elim k [ ]
+  instruction_words r r' micro w k =
+      subst (λ n. InstructionStands (image_of setup n).pages bytes r' micro) (sym w.image)
+      (instruction_stays (image_of setup r.image).pages bytes bytes r r' w.context (ap numbers_of w.pages) (ap (λ p. flat_pages bytes (image_of setup r.image).pages (numbers_of p)) w.pages) micro k)
 
   running_words : (f hart budget count : ℕ) (micro : Micro) → IsRunning setup bytes (rec f) (number f) hart budget count micro → IsRunning setup bytes (rec' f) (number' f) hart budget count micro
   running_words f hart budget count micro k = record {
@@ -74,6 +68,9 @@ module _ (setup : SetupParts) (bytes : ℕ → List ℕ) (rec rec' : ℕ → Enc
 
   pub line_words : (hart : ℕ) (line : Option Line) (under : Under) → LineUnderWay setup bytes rec number hart line under → LineUnderWay setup bytes rec' number' hart line under
   line_words hart line Idle k = tt
+  line_words hart (Some (Load va)) (Seeking walk) k = k
+  line_words hart (Some (Store va word)) (Seeking walk) k = k
+  line_words hart (Some (Unmap va)) (Removing page) k = tt
   line_words hart (Some (Create f image pages)) (Putting done) k = record {
     state = (same f.0).state ∙ k.state;
     image_is = (same f.0).image ∙ k.image_is;
@@ -92,7 +89,8 @@ module _ (digest_of : List ℕ → List ℕ) (room_stays : RoomStays) (w : World
     (gives : after_answer (state_of w) hart line now ≡ answer (with_number (state_of w) e n) hart)
     (words : SameButWords (enclave_at w.enclaves e) r) (retired : n.retired ≡ ((state_of w).number e).retired) (live : n.live ≡ ((state_of w).number e).live)
     (agrees : RecordAgrees r n)
-    (stands : is_free (enclave_at w.enclaves e).state ≡ false → EnclaveStands w.setup (written_page w) w.owners e r n) where
+    (stands : is_free (enclave_at w.enclaves e).state ≡ false → EnclaveStands w.setup (written_page w) w.owners e r n)
+    (no_removal : removals_by (state_of w).removals hart ≡ []) where
   abbrev s : Monitor
   s = state_of w
 
@@ -129,25 +127,45 @@ module _ (digest_of : List ℕ → List ℕ) (room_stays : RoomStays) (w : World
       (ap (λ (m : Number). m.pages) number_here ∙ agrees.pages ∙ ap numbers_of words.pages ∙ sym (k.stands.records e).pages)
       (λ f other. ap (λ (m : Number). m.pages) (number_other f other))
 
+  records_agree : RecordsAgree (enclave_at enclaves') s'.number
+  records_agree = everywhere (λ f. RecordAgrees (enclave_at enclaves' f) (s'.number f)) e
+      (subst (λ x. RecordAgrees x (s'.number e)) (sym change.here) (subst (RecordAgrees r) (sym number_here) agrees))
+      (λ f other. subst (λ x. RecordAgrees x (s'.number f)) (sym (change.others f other)) (subst (RecordAgrees (enclave_at w.enclaves f)) (sym (number_other f other)) (k.stands.records f)))
+
+  enclaves_agree : EnclavesAgree w.setup (written_page w) w.owners (enclave_at enclaves') s'.number
+  enclaves_agree = everywhere (λ f. is_free (enclave_at enclaves' f).state ≡ false → EnclaveStands w.setup (written_page w) w.owners f (enclave_at enclaves' f) (s'.number f)) e
+      (λ used. subst (λ x. EnclaveStands w.setup (written_page w) w.owners e x (s'.number e)) (sym change.here)
+      (subst (EnclaveStands w.setup (written_page w) w.owners e r) (sym number_here)
+      (stands (ap is_free (sym ((all_words e).state)) ∙ used))))
+      (λ f other used. subst (λ x. EnclaveStands w.setup (written_page w) w.owners f x (s'.number f)) (sym (change.others f other))
+      (subst (EnclaveStands w.setup (written_page w) w.owners f (enclave_at w.enclaves f)) (sym (number_other f other))
+      (k.stands.enclaves f (ap is_free (sym ((all_words f).state)) ∙ used))))
+
+  -- ---- translations
+
+  all_images : (f : ℕ) → (s'.number f).image ≡ (s.number f).image
+  all_images f = (records_agree f).image ∙ (all_words f).image ∙ sym (k.stands.records f).image
+
+  spaces : SpacesStay digest_of w k w.ctl (enclave_at enclaves') w.owners s'
+  spaces = record {
+    space = refl;
+    removals = refl;
+    numbers = λ f is_live. record { live = all_live f ∙ is_live; image = all_images f; pages = all_pages f };
+    records = records_agree;
+    enclaves = enclaves_agree;
+  }
+
   -- a record that took or was sent a word
   pub words_kept : Kept digest_of (answers (record w { enclaves = with_enclave w.enclaves e r }) hart now)
   words_kept =
       let moves = answered_line digest_of room_stays w k hart below line now no_part here allowed (with_number s e n) (λ actor. refl) gives in
-      row_kept digest_of w hart w.ctl w.owners enclaves' _ _ _ s' Idle (answered_at w.answered hart + 1) k none (record {
+      row_kept digest_of w hart w.ctl w.owners enclaves' w.tlbs w.fences _ _ _ s' Idle (answered_at w.answered hart + 1) k none (record {
         line = moves;
         sizes = record { zones = refl; slots = refl; pages = refl; guarded = λ page is. is; numbers = change.size };
         trees = k.trees;
         owners_agree = record { owner = k.stands.owners.owner; maps = k.stands.owners.maps };
-        records = everywhere (λ f. RecordAgrees (enclave_at enclaves' f) (s'.number f)) e
-            (subst (λ x. RecordAgrees x (s'.number e)) (sym change.here) (subst (RecordAgrees r) (sym number_here) agrees))
-            (λ f other. subst (λ x. RecordAgrees x (s'.number f)) (sym (change.others f other)) (subst (RecordAgrees (enclave_at w.enclaves f)) (sym (number_other f other)) (k.stands.records f)));
-        enclaves_agree = everywhere (λ f. is_free (enclave_at enclaves' f).state ≡ false → EnclaveStands w.setup (written_page w) w.owners f (enclave_at enclaves' f) (s'.number f)) e
-            (λ used. subst (λ x. EnclaveStands w.setup (written_page w) w.owners e x (s'.number e)) (sym change.here)
-            (subst (EnclaveStands w.setup (written_page w) w.owners e r) (sym number_here)
-            (stands (ap is_free (sym ((all_words e).state)) ∙ used))))
-            (λ f other used. subst (λ x. EnclaveStands w.setup (written_page w) w.owners f x (s'.number f)) (sym (change.others f other))
-            (subst (EnclaveStands w.setup (written_page w) w.owners f (enclave_at w.enclaves f)) (sym (number_other f other))
-            (k.stands.enclaves f (ap is_free (sym ((all_words f).state)) ∙ used))));
+        records = records_agree;
+        enclaves_agree = enclaves_agree;
         host = k.stands.host;
         attacks = attacks_live w hart s' _ _ digest_of k refl all_live all_pages
             (λ other differs. ap (slice_get (script_of w.setup other)) (moves.answered_change.others other differs))
@@ -157,4 +175,16 @@ module _ (digest_of : List ℕ → List ℕ) (room_stays : RoomStays) (w : World
             (hart_line w other) (under_at w.under other) (k.stands.lines other);
         own_line = tt;
         own_apart = λ other f differs own there. none_some f _ (idle_has_none _) own;
+        translations = translations_stay digest_of w k w.ctl (enclave_at enclaves') w.owners s' spaces (written_stay digest_of w k (enclave_at enclaves') w.owners s' (λ f was. all_live f ∙ was)) hart w.tlbs _ _ (record {
+          lines = λ other differs. ap (slice_get (script_of w.setup other)) (moves.answered_change.others other differs);
+          unders = moves.under_change.others;
+          contexts = λ other f differs is. (all_words f).context;
+          harts = refl;
+          tlbs = λ other differs. refl;
+          none_removed = no_removal;
+          removes_none = ap isnt_removing moves.under_change.here;
+          entries = entries_stay digest_of w k w.ctl (enclave_at enclaves') w.owners s' spaces hart;
+          walk = subst (λ u. WalkingStands w.ctl (IsFresh w.setup s' w.fences hart) (walking w.setup.tables (enclave_at enclaves') (line_after w (slice_set w.answered hart (answered_at w.answered hart + 1)) hart) u))
+              (sym moves.under_change.here) (idle_walks w.ctl (IsFresh w.setup s' w.fences hart) w.setup.tables (enclave_at enclaves') _);
+        });
       })

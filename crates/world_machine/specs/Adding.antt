@@ -15,9 +15,15 @@ actor_number harts (actor_is.Ack h) = h.0
 actor_number harts actor_is.Attacker = harts
 
 -- no entry joins the history, or one does: an answer to this actor's first line that isn't answered
-abbrev pub AnswersAtMostOne : WorldData → ℕ → WorldData → Type 0
-AnswersAtMostOne old actor new =
+abbrev pub AddsAtMostOne : WorldData → ℕ → WorldData → Type 0
+AddsAtMostOne old actor new =
     (new.history.entries ≡ old.history.entries) ⊎ ((now : Answer) × (new.history.entries ≡ old.history.entries ++ entry_now old actor now ∷ []))
+
+-- an acknowledgement answers nothing
+abbrev pub AnswersAtMostOne : WorldData → Actor → WorldData → Type 0
+AnswersAtMostOne old (actor_is.Hart h) new = AddsAtMostOne old h.0 new
+AnswersAtMostOne old (actor_is.Ack h) new = new.history.entries ≡ old.history.entries
+AnswersAtMostOne old actor_is.Attacker new = AddsAtMostOne old old.setup.harts new
 
 -- a move is counted, up to the greatest count
 abbrev pub moves_after : Turned → ℕ → ℕ

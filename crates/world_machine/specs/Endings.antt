@@ -1,5 +1,6 @@
 -- What the end of a run means.
 use Rattle.std.specs.Prelude.{◌≡◌, ℕ, ◌<◌, false, List, Some, None}
+use Rattle.mon_fence.specs.Fences.{fence_of}
 use Rattle.pl_history.specs.declared.line.AttackLine.{AttackLine}
 use Rattle.pl_history.specs.declared.line.AttackLine.TheVariants as attack
 use Rattle.pl_history.specs.declared.line.Line.{Line}
@@ -39,12 +40,13 @@ pub record IsAttackBlocked (w : WorldData) (line : AttackLine) : Type 0 where
   pub line_is : line ≡ attack.After actor count
   pub few : answered_at w.answered actor < count
 
--- some lines aren't answered, and each actor with such lines waits in an `after`
+-- some lines aren't answered, each actor with such lines waits in an `after`, and no fence stands
 pub record IsStuck (w : WorldData) : Type 0 where
   pub none : w.collision ≡ None
   pub some : all_answered w ≡ false
   pub harts : (hart : ℕ) (line : Line) → hart < w.setup.harts → hart_line w hart ≡ Some line → IsBlocked w hart line
   pub attacker : (line : AttackLine) → attacker_line w ≡ Some line → IsAttackBlocked w line
+  pub fences : (hart : ℕ) → fence_of w.fences hart ≡ None
 
 abbrev pub EndsBy : (List ℕ → List ℕ) → Finished → WorldData → Type 0
 EndsBy digest_of finished.Done w = IsDone w

@@ -1,26 +1,27 @@
 -- What holds of each hart's line that has begun, and that no two harts have one number under way.
-use Rattle.std.specs.Prelude.{◌≡◌, ℕ, ◌+◌, ◌<◌, Bool, true, false, IsTrue, List, length, map, Option, Some, None}
+use Rattle.std.specs.Prelude.{◌≡◌, ℕ, ◌+◌, ◌%◌, ◌<◌, false, List, length, map, Option, Some, None}
+use Rattle.pl_base.specs.declared.access.Kind.{Kind}
+use Rattle.pl_base.specs.declared.access.Kind.TheVariants as kind
 use Rattle.pl_base.specs.declared.state.State.TheVariants as state_is
 use Rattle.rv_alone.specs.declared.step.Act.{Act}
-use Rattle.rv_alone.specs.declared.step.Act.TheVariants.{Load, Store}
+use Rattle.rv_alone.specs.declared.step.Act.TheVariants as act_is
 use Rattle.rv_alone.specs.Effect.{act_of}
 use Rattle.rv_alone.specs.Flat.{fetched}
 use Rattle.rv_hart.specs.declared.walks.Micro.{Micro}
 use Rattle.rv_hart.specs.declared.walks.Micro.TheVariants.{Fetching, Reaching, Faulting}
-use Rattle.rv_hart.specs.declared.walks.Walk.TheVariants.{Start}
 use Rattle.mon_enclave.specs.declared.enclave.Enclave.{Enclave}
 use Rattle.mon_enclave.specs.declared.enclave.PageKind.TheVariants.{Own}
 use Rattle.mon_image.specs.declared.page.ImagePage.{ImagePage}
 use Rattle.mon_life.specs.Pages.{PagePut, page_put_at}
 use Rattle.mon_life.specs.Putting.{steps_of}
 use Rattle.pl_history.specs.declared.line.Line.{Line}
-use Rattle.pl_history.specs.declared.line.Line.TheVariants.{Create, Run, Resume}
+use Rattle.pl_history.specs.declared.line.Line.TheVariants.{Load, Store, Unmap, Create, Run, Resume}
 use Rattle.pl_history.specs.declared.setup.SetupParts.{SetupParts}
 use Rattle.pl_history.specs.Monitor.{Number}
 use Rattle.world_machine.specs.declared.under.Under.{Under}
-use Rattle.world_machine.specs.declared.under.Under.TheVariants.{Idle, Putting, Running}
+use Rattle.world_machine.specs.declared.under.Under.TheVariants.{Idle, Seeking, Removing, Putting, Running}
 use Rattle.world_machine.specs.Making.{image_of}
-use Rattle.world_machine.specs.Pages.{flat_pages, numbers_of}
+use Rattle.world_machine.specs.Pages.{flat_pages, located, numbers_of}
 
 -- the number that a begun line has under way
 abbrev pub number_under_way : Option Line → Under → Option ℕ
@@ -45,18 +46,27 @@ pub record IsPutting (setup : SetupParts) (bytes_of : ℕ → List ℕ) (r : Enc
   pub few : done < steps_of false (length (image_of setup image).pages)
   pub put : (at : ℕ) → at < done → HasBytes bytes_of (page_put_at setup.tables e (image_of setup image) r.pages at)
 
--- an instruction that loads or stores
-abbrev pub has_data : Act → Bool
-has_data (Load address width is_signed rd) = true
-has_data (Store address width value) = true
-has_data act = false
+-- the access to data of an instruction: of this kind, at this address
+abbrev pub access_of : Act → Option (Kind × ℕ)
+access_of (act_is.Load address width is_signed rd) = Some (kind.Load, address)
+access_of (act_is.Store address width value) = Some (kind.Store, address)
+access_of act = None
 
--- the next instruction: it isn't fetched, or it is the word at pc, and loads or stores
+-- the word at pc makes this access
+pub record MakesAccess (image : List ImagePage) (bytes_of : ℕ → List ℕ) (r : Enclave) (word : ℕ) (access : Kind × ℕ) : Type 0 where
+  pub word_is : fetched (flat_pages bytes_of image (numbers_of r.pages)) r.context.pc ≡ Some word
+  pub access_is : access_of (act_of r.context word) ≡ Some access
+
+-- the next instruction makes an access of a kind at an address: its fetch, or one to data
+abbrev pub IsAccessed : List ImagePage → (ℕ → List ℕ) → Enclave → ℕ → Kind → Type 0
+IsAccessed image bytes_of r va kind.Fetch = va ≡ r.context.pc
+IsAccessed image bytes_of r va access = (word : ℕ) × MakesAccess image bytes_of r word (access, va)
+
+-- the next instruction: it isn't fetched; or it is the word at pc, and loads or stores; or no page serves an access that it makes
 abbrev pub InstructionStands : List ImagePage → (ℕ → List ℕ) → Enclave → Micro → Type 0
-InstructionStands image bytes_of r (Fetching walk) = walk ≡ Start
-InstructionStands image bytes_of r (Reaching word walk) =
-    (walk ≡ Start) × (fetched (flat_pages bytes_of image (numbers_of r.pages)) r.context.pc ≡ Some word) × IsTrue (has_data (act_of r.context word))
-InstructionStands image bytes_of r (Faulting va kind) = ⊥
+InstructionStands image bytes_of r (Fetching walk) = Unit {0}
+InstructionStands image bytes_of r (Reaching word walk) = (access : Kind × ℕ) × MakesAccess image bytes_of r word access
+InstructionStands image bytes_of r (Faulting va access) = IsAccessed image bytes_of r va access × (located access image (numbers_of r.pages) va ≡ None)
 
 -- an enclave that runs on this hart, with budget left; so many instructions retired since the line began
 pub record IsRunning (setup : SetupParts) (bytes_of : ℕ → List ℕ) (r : Enclave) (n : Number) (hart budget count : ℕ) (micro : Micro) : Type 0 where
@@ -69,6 +79,9 @@ pub record IsRunning (setup : SetupParts) (bytes_of : ℕ → List ℕ) (r : Enc
 -- what holds of a hart's line that is so far; a line that can't be so far isn't
 abbrev pub LineUnderWay : SetupParts → (ℕ → List ℕ) → (ℕ → Enclave) → (ℕ → Number) → ℕ → Option Line → Under → Type 0
 LineUnderWay setup bytes_of record_of number hart line Idle = Unit {0}
+LineUnderWay setup bytes_of record_of number hart (Some (Load va)) (Seeking walk) = va.0 % 8 ≡ 0
+LineUnderWay setup bytes_of record_of number hart (Some (Store va word)) (Seeking walk) = va.0 % 8 ≡ 0
+LineUnderWay setup bytes_of record_of number hart (Some (Unmap va)) (Removing page) = Unit {0}
 LineUnderWay setup bytes_of record_of number hart (Some (Create e image pages)) (Putting done) = IsPutting setup bytes_of (record_of e.0) e.0 image pages done
 LineUnderWay setup bytes_of record_of number hart (Some (Run e budget)) (Running micro count) =
     IsRunning setup bytes_of (record_of e.0) (number e.0) hart budget count micro

@@ -7,29 +7,31 @@ use Rattle.mon_tables.specs.Tables.{start_words}
 use Rattle.pl_history.specs.declared.setup.SetupParts.{SetupParts}
 use Rattle.pl_history.specs.Rules.{IsSetup, guarded_of, pages_of}
 use Rattle.world_machine.specs.declared.under.Under.TheVariants.{Idle}
-use Rattle.world_machine.specs.Budgets.{AreBudgets}
 use Rattle.world_machine.specs.ByteBounds.{AreImageBytes}
+use Rattle.world_machine.specs.LineNumbers.{ScriptsFit}
 use Rattle.world_machine.specs.Steps.{AllFit, Step, replay_from}
 use Rattle.world_machine.specs.Unbuilt.{first_unbuilt_of}
 use Rattle.world_machine.specs.Worlds.{WorldData}
 
--- a setup that can be run: it meets the rules, its images' bytes are bytes, its budgets are below 2^32, and each of its lines is built
+-- a setup that can be run: it meets the rules, its images' bytes are bytes, the numbers of its lines are below 2^32, and each of its lines is built
 pub record CanRun (setup : SetupParts) : Type 0 where
   pub rules : IsSetup setup
   pub bytes : AreImageBytes setup.images
-  pub budgets : AreBudgets setup.lines
+  pub lines_fit : ScriptsFit setup.lines
   pub built : first_unbuilt_of setup ≡ None
 
 module _ (digest_of : List ℕ → List ℕ) where
   -- The world that a run of a setup begins with: the start words of the host's tables in the guarded pages, nothing mounted; guarded pages
-  -- and those of the host; free numbers; no line begun or answered; an empty history, with room for two entries for each line and for all
-  -- bytes that the attacker's lines may add.
+  -- and those of the host; free numbers; no translations and no fences; no line begun or answered; an empty history, with room for two
+  -- entries for each line and for all bytes that the attacker's lines may add.
   unfoldable pub opening_world : SetupParts → WorldData
   opening_world setup = record {
     setup = setup;
     ctl = start_data digest_of setup.zones setup.slots (start_words setup.tables);
     owners = first_owners (guarded_of setup.tables setup.enclaves) (pages_of setup.zones);
     enclaves = replicate setup.enclaves free_enclave;
+    tlbs = replicate setup.harts [];
+    fences = replicate setup.harts None;
     under = replicate setup.harts Idle;
     answered = replicate (setup.harts + 1) 0;
     history = record {

@@ -8,7 +8,7 @@ use Rattle.mon_owner.specs.declared.owners.Owner.{Owner as Kept}
 use Rattle.mon_owner.specs.declared.owners.Owner.TheVariants as kept
 use Rattle.pl_history.specs.Monitor.{Monitor, Number, Owner, Progress, guard, host, number, maps_of}
 use Rattle.world_machine.specs.declared.under.Under.{Under}
-use Rattle.world_machine.specs.declared.under.Under.TheVariants.{Idle}
+use Rattle.world_machine.specs.declared.under.Under.TheVariants.{Idle, Seeking}
 use Rattle.world_machine.specs.Pages.{numbers_of}
 use Rattle.world_machine.specs.Worlds.{answered_at, under_at}
 
@@ -61,8 +61,10 @@ RecordsAgree record_of number_of = (e : ℕ) → RecordAgrees (record_of e) (num
 
 -- ---- progress
 
+-- an access of the host has no answer before its last
 abbrev pub is_begun : Under → Bool
 is_begun Idle = false
+is_begun (Seeking walk) = false
 is_begun under = true
 
 abbrev pub progress_of : List Under → List ℕ → ℕ → Progress

@@ -1,5 +1,5 @@
--- The events of `run` and `resume`: the monitor step that begins, the fetch, the access to data, the page fault.
-use Rattle.std.specs.Prelude.{ℕ, ◌+◌, ◌%◌, ◌==◌, Bool, if◌then◌else◌, List, [], ◌∷◌, ◌++◌, length, Option, Some, None}
+-- The events of `run` and `resume`: the monitor step that begins, the words of walks, the fetch, the access to data, the page fault.
+use Rattle.std.specs.Prelude.{ℕ, ◌+◌, ◌%◌, ◌==◌, Bool, if◌then◌else◌, List, [], ◌∷◌, ◌++◌, length, Option, Some, None, option_map, Result, Ok, Err}
 use Rattle.pl_base.specs.declared.access.Kind.{Kind}
 use Rattle.pl_base.specs.declared.access.Kind.TheVariants as kind
 use Rattle.pl_base.specs.declared.place.Place.{Place}
@@ -12,18 +12,20 @@ use Rattle.rv_alone.specs.declared.step.Context.{Context}
 use Rattle.rv_alone.specs.Effect.{act_of, advanced, loaded, with_register}
 use Rattle.rv_hart.specs.declared.walks.Micro.{Micro}
 use Rattle.rv_hart.specs.declared.walks.Micro.TheVariants.{Fetching, Reaching, Faulting}
+use Rattle.rv_hart.specs.declared.walks.PageFault.{PageFault as NoPage}
+use Rattle.rv_hart.specs.declared.walks.Walk.{Walk}
 use Rattle.rv_hart.specs.declared.walks.Walk.TheVariants.{Start}
 use Rattle.mem_ctl.specs.Calls.{read_word_of, write_part_of}
 use Rattle.mem_ctl.specs.Data.{going}
 use Rattle.mon_enclave.specs.declared.enclave.Enclave.{Enclave}
 use Rattle.mon_enclave.specs.Records.{enclave_at, with_enclave, has_room, received_word}
-use Rattle.mon_image.specs.declared.page.ImagePage.{ImagePage}
 use Rattle.mon_life.specs.Running.{RunBegun, run_begun}
 use Rattle.pl_history.specs.declared.answer.Answer.TheVariants as answer_is
 use Rattle.world_machine.specs.declared.under.Under.TheVariants.{Running}
 use Rattle.world_machine.specs.Answering.{accesses, answers, goes_on, quiet}
-use Rattle.world_machine.specs.Making.{begins_unless, image_of}
-use Rattle.world_machine.specs.Pages.{fault_cause, located, numbers_of, part_of_word, word_offset}
+use Rattle.world_machine.specs.Making.{begins_unless}
+use Rattle.world_machine.specs.Pages.{fault_cause, part_of_word, word_offset}
+use Rattle.world_machine.specs.Translating.{Request, number_view, page_at, reads_table, sought_in, translated}
 use Rattle.world_machine.specs.Worlds.{Event, WorldData}
 
 -- A run under way: its hart, its number, the budget, and how many instructions retired since the line began.
@@ -96,6 +98,15 @@ acts w run r word (Trap cause value) = traps w run r cause value
 abbrev pub faults : RunNow → Enclave → WorldData → Place → WorldData
 faults run r w place = leaves w run r run.count (why_is.Fault place)
 
+-- the access of an instruction that a run translates
+abbrev pub run_request : WorldData → RunNow → ℕ → Kind → Request
+run_request w run va access = record { hart = run.hart; va = record { 0 = va }; kind = access; view = number_view w.setup.tables run.e }
+
+-- a walk that has learned goes on, or it is noted that no page serves the access
+abbrev pub run_learns : RunNow → (Walk → Micro) → ℕ → Kind → WorldData → Result Walk NoPage → WorldData
+run_learns run on va access w (Ok walk) = goes_on w run.hart (Running (on walk) run.count)
+run_learns run on va access w (Err none) = goes_on w run.hart (Running (Faulting va access) run.count)
+
 abbrev pub page_faults : WorldData → RunNow → Enclave → Kind → ℕ → Event
 page_faults w run r access address = quiet (traps w run r (fault_cause access) address)
 
@@ -124,20 +135,29 @@ module _ (digest_of : List ℕ → List ℕ) where
       (λ left done. retires left run (retired_with r (advanced r.context)))
       (faults run r)
 
-  -- the data of an instruction that loads or stores is reached; no other instruction seeks data
-  abbrev pub reaches : WorldData → RunNow → Enclave → List ImagePage → List ℕ → Act → Event
-  reaches w run r image positions (Load address width is_signed rd) =
-      loads_in w run r positions address width is_signed rd (located kind.Load image (numbers_of r.pages) address)
-  reaches w run r image positions (Store address width value) =
-      stores_in w run r positions address width value (located kind.Store image (numbers_of r.pages) address)
-  reaches w run r image positions act = quiet w
+  -- ---- by way of a translation
 
-  -- the next event of a run, by where its instruction is. An access goes to the page that the record names; where there is none that lets
-  -- it through, the event is the monitor's step that traps, without a path.
-  abbrev pub run_event : WorldData → RunNow → Enclave → List ImagePage → List ℕ → Micro → Event
-  run_event w run r image positions (Fetching walk) = fetched_in w run r positions (located kind.Fetch image (numbers_of r.pages) r.context.pc)
-  run_event w run r image positions (Reaching word walk) = reaches w run r image positions (act_of r.context word)
-  run_event w run r image positions (Faulting va access) = page_faults w run r access va
+  -- the next event of a walk to an address; `on` says how far the instruction is, with the walk
+  abbrev pub run_translates : WorldData → RunNow → Enclave → List ℕ → (Walk → Micro) → Walk → ℕ → Kind → (Option ℕ → Event) → Event
+  run_translates w run r positions on walk va access reach =
+      translated (sought_in w (run_request w run va access) walk)
+      (reads_table digest_of w (run_request w run va access) positions walk (run_learns run on va access) (faults run r))
+      (λ pa. reach (option_map page_at pa))
+
+  -- the data of an instruction that loads or stores is reached; no other instruction seeks data
+  abbrev pub reaches : WorldData → RunNow → Enclave → List ℕ → ℕ → Walk → Act → Event
+  reaches w run r positions word walk (Load address width is_signed rd) =
+      run_translates w run r positions (Reaching word) walk address kind.Load (loads_in w run r positions address width is_signed rd)
+  reaches w run r positions word walk (Store address width value) =
+      run_translates w run r positions (Reaching word) walk address kind.Store (stores_in w run r positions address width value)
+  reaches w run r positions word walk act = quiet w
+
+  -- the next event of a run, by where its instruction is. Where no page serves an access, the event is the monitor's step that traps,
+  -- without a path.
+  abbrev pub run_event : WorldData → RunNow → Enclave → List ℕ → Micro → Event
+  run_event w run r positions (Fetching walk) = run_translates w run r positions Fetching walk r.context.pc kind.Fetch (fetched_in w run r positions)
+  run_event w run r positions (Reaching word walk) = reaches w run r positions word walk (act_of r.context word)
+  run_event w run r positions (Faulting va access) = page_faults w run r access va
 
 -- `run` begins, and `resume`, which isn't the first run
 abbrev pub begin_run : WorldData → ℕ → ℕ → Bool → Event
@@ -149,4 +169,4 @@ begin_run w hart e first =
 abbrev pub runs : (List ℕ → List ℕ) → WorldData → ℕ → List ℕ → ℕ → ℕ → Micro → ℕ → Event
 runs digest_of w hart positions e budget micro count =
     let r : Enclave = enclave_at w.enclaves e in
-    run_event digest_of w (record { hart = hart; e = e; budget = budget; count = count }) r (image_of w.setup r.image).pages positions micro
+    run_event digest_of w (record { hart = hart; e = e; budget = budget; count = count }) r positions micro

@@ -7,15 +7,15 @@ use Rattle.mon_owner.specs.declared.owners.Owner.TheVariants.{Guard}
 use Rattle.pl_history.specs.declared.setup.SetupParts.{SetupParts}
 use Rattle.pl_history.specs.Rules.{IsSetup, guarded_of, pages_of}
 use Rattle.world_machine.specs.declared.under.Under.{Under}
-use Rattle.world_machine.specs.Budgets.{AreBudgets}
 use Rattle.world_machine.specs.ByteBounds.{AreImageBytes}
+use Rattle.world_machine.specs.LineNumbers.{ScriptsFit}
 use Rattle.world_machine.specs.Unbuilt.{first_unbuilt_of}
 
 pub record HasSizes (setup : SetupParts) (ctl : CtlData) (owners : List Owner) (enclaves : List Enclave) (under : List Under) (answered : List ℕ) : Type 0 where
   pub rules : IsSetup setup
   pub built : first_unbuilt_of setup ≡ None
   pub bytes : AreImageBytes setup.images
-  pub budgets : AreBudgets setup.lines
+  pub lines_fit : ScriptsFit setup.lines
   pub zones : ctl.zones ≡ setup.zones
   pub slots : ctl.slots ≡ setup.slots
   pub pages : length owners ≡ pages_of setup.zones

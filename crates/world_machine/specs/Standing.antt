@@ -16,6 +16,7 @@ use Rattle.world_machine.specs.EnclavesAgree.{EnclavesAgree}
 use Rattle.world_machine.specs.LinesUnderWay.{LineUnderWay, NumbersApart, number_under_way}
 use Rattle.world_machine.specs.RecordsAgree.{OwnersAgree, ProgressAgrees, RecordsAgree}
 use Rattle.world_machine.specs.Sizes.{HasSizes}
+use Rattle.world_machine.specs.TranslationsAgree.{TranslationsStand}
 use Rattle.world_machine.specs.Worlds.{CollisionData, WorldData, hart_line, under_at}
 
 -- the bytes of a page as last written
@@ -31,6 +32,7 @@ pub record Stands (w : WorldData) (s : Monitor) : Type 0 where
   pub attacks : OnlyAttacksDiffer w.setup.zones w.ctl.off_chip w.ctl.mirror s.attacks w.owners s.number (hart_line w) (under_at w.under)
   pub lines : (hart : ℕ) → LineUnderWay w.setup (written_page w) (enclave_at w.enclaves) s.number hart (hart_line w hart) (under_at w.under hart)
   pub apart : NumbersApart (λ hart. number_under_way (hart_line w hart) (under_at w.under hart))
+  pub translations : TranslationsStand w.setup w.ctl w.tlbs w.fences (enclave_at w.enclaves) s (hart_line w) (under_at w.under)
 
 -- an attack that changed a byte overlaps a place that there is
 pub record IsAttackedPlace (zones : ℕ) (attacks : List Attack) (place : Place) : Type 0 where

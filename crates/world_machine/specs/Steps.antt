@@ -2,21 +2,26 @@
 use Rattle.std.specs.Prelude.{◌≡◌, ℕ, ◌+◌, ◌-◌, ◌^◌, nat_le, true, false, if◌then◌else◌, is_some, IsTrue, List, [], ◌∷◌, min, Option, Some, None}
 use Rattle.pl_base.specs.declared.actor.Actor.{Actor}
 use Rattle.pl_base.specs.declared.actor.Actor.TheVariants as actor_is
+use Rattle.pl_base.specs.declared.number.HartSet.{HartSet}
 use Rattle.mem_slots.specs.declared.slot_use.SlotUse.{SlotUse}
 use Rattle.mem_ctl.specs.Results.{AreGiven}
+use Rattle.mon_fence.specs.Fences.{fence_of}
 use Rattle.pl_history.specs.declared.answer.Answer.TheVariants as answer_is
 use Rattle.pl_history.specs.declared.line.AttackLine.{AttackLine}
 use Rattle.pl_history.specs.declared.line.AttackLine.TheVariants as attack
 use Rattle.pl_history.specs.declared.line.Line.{Line}
-use Rattle.pl_history.specs.declared.line.Line.TheVariants.{Create, Run, Resume, Send, Take, After}
+use Rattle.pl_history.specs.declared.line.Line.TheVariants.{Load, Store, Map, Unmap, Create, Run, Resume, Send, Take, After}
 use Rattle.pl_history.specs.Rules.{is_actor}
 use Rattle.world_machine.specs.declared.turned.Turned.{Turned}
 use Rattle.world_machine.specs.declared.turned.Turned.TheVariants as turned
 use Rattle.world_machine.specs.declared.turned.Wait.TheVariants as wait
 use Rattle.world_machine.specs.declared.under.Under.{Under}
-use Rattle.world_machine.specs.declared.under.Under.TheVariants.{Idle, Putting, Running}
+use Rattle.world_machine.specs.declared.under.Under.TheVariants.{Idle, Seeking, Removing, Putting, Running}
+use Rattle.world_machine.specs.Acknowledging.{acknowledged, owed}
 use Rattle.world_machine.specs.Answering.{answers, quiet}
 use Rattle.world_machine.specs.Attacking.{attacker_waited, attacks}
+use Rattle.world_machine.specs.HostAccessing.{accesses_host, begins_access, loads, stores}
+use Rattle.world_machine.specs.HostMapping.{begins_unmap, ends_unmap, lacked_by, maps}
 use Rattle.world_machine.specs.Making.{begin_create, put_next}
 use Rattle.world_machine.specs.Running.{begin_run, runs}
 use Rattle.world_machine.specs.Talking.{sends_word, takes_word}
@@ -31,9 +36,26 @@ pub data Turn : Type 0 where
 abbrev pub waits : WorldData → ℕ → ℕ → Event → Turn
 waits w actor count done = if nat_le count (answered_at w.answered actor) then moves done else rests (turned.Blocked (wait.After actor count))
 
+-- a removal ends once no hart's acknowledgement is lacking
+abbrev pub unmap_turn : WorldData → ℕ → ℕ → Option HartSet → Turn
+unmap_turn w hart page None = moves (quiet (ends_unmap w hart page))
+unmap_turn w hart page (Some harts) = rests (turned.Blocked (wait.Acks harts))
+
+-- this hart acknowledges the fence of the lowest requester that needs it
+abbrev pub ack_turn : WorldData → ℕ → Option ℕ → Turn
+ack_turn w hart None = rests turned.Nothing
+ack_turn w hart (Some requester) = moves (quiet (acknowledged w hart requester (fence_of w.fences requester)))
+
 module _ (digest_of : List ℕ → List ℕ) where
   -- the event that is due for a hart with this line under way, a row for each line and how far it is. No line comes otherwise.
   abbrev pub due : WorldData → ℕ → List ℕ → Line → Under → Turn
+  due w hart positions (Load va) Idle = moves (begins_access digest_of w hart positions va loads)
+  due w hart positions (Load va) (Seeking walk) = moves (accesses_host digest_of w hart positions va loads walk)
+  due w hart positions (Store va word) Idle = moves (begins_access digest_of w hart positions va (stores word))
+  due w hart positions (Store va word) (Seeking walk) = moves (accesses_host digest_of w hart positions va (stores word) walk)
+  due w hart positions (Map va page perms) Idle = moves (maps digest_of w hart positions va page perms)
+  due w hart positions (Unmap va) Idle = moves (begins_unmap digest_of w hart positions va)
+  due w hart positions (Unmap va) (Removing page) = unmap_turn w hart page (lacked_by w hart)
   due w hart positions (Create e image pages) Idle = moves (begin_create w hart e.0 image pages)
   due w hart positions (Create e image pages) (Putting done) = moves (put_next digest_of w hart positions e.0 image done)
   due w hart positions (Run e budget) Idle = moves (begin_run w hart e.0 true)
@@ -54,10 +76,9 @@ module _ (digest_of : List ℕ → List ℕ) where
   attacker_turn w (Some (attack.After actor count)) = waits w actor count (attacker_waited w)
   attacker_turn w (Some line) = moves (attacks w)
 
-  -- no hart posts a fence yet, so none is to be acknowledged
   abbrev pub actor_turn : WorldData → Actor → List ℕ → Turn
   actor_turn w (actor_is.Hart h) positions = hart_turn w h.0 positions (hart_line w h.0)
-  actor_turn w (actor_is.Ack h) positions = rests turned.Nothing
+  actor_turn w (actor_is.Ack h) positions = ack_turn w h.0 (owed w.fences h.0)
   actor_turn w actor_is.Attacker positions = attacker_turn w (attacker_line w)
 
   -- once a collision is kept, nobody moves

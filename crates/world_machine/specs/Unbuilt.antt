@@ -2,11 +2,15 @@
 use Rattle.std.specs.Prelude.{ℕ, Bool, true, false, not, List, Option}
 use Rattle.std.specs.List.{flat_map, position}
 use Rattle.pl_history.specs.declared.line.Line.{Line}
-use Rattle.pl_history.specs.declared.line.Line.TheVariants.{Create, Run, Resume, Send, Take, After}
+use Rattle.pl_history.specs.declared.line.Line.TheVariants.{Load, Store, Map, Unmap, Create, Run, Resume, Send, Take, After}
 use Rattle.pl_history.specs.declared.setup.SetupParts.{SetupParts}
 
 -- the lines of harts that are built; those of the attacker all are
 abbrev pub is_built : Line → Bool
+is_built (Load va) = true
+is_built (Store va word) = true
+is_built (Map va page perms) = true
+is_built (Unmap va) = true
 is_built (Create e image pages) = true
 is_built (Run e budget) = true
 is_built (Resume e budget) = true

@@ -1,10 +1,13 @@
--- The world as plain data: the setup, the controller, the owners of pages, the records of enclave numbers, each hart's line under way, how
--- many lines of each actor are answered, the history, the collision that is kept, and how many moves were made.
-use Rattle.std.specs.Prelude.{ℕ, List, slice_get, unwrap_or, Option}
+-- The world as plain data: the setup, the controller, the owners of pages, the records of enclave numbers, each hart's translations and
+-- fence, each hart's line under way, how many lines of each actor are answered, the history, the collision that is kept, and how many moves
+-- were made.
+use Rattle.std.specs.Prelude.{ℕ, List, [], slice_get, slice_set, unwrap_or, Option}
+use Rattle.rv_tlb.specs.declared.tlb.TlbEntry.{TlbEntry}
 use Rattle.pl_base.specs.declared.place.Place.{Place}
 use Rattle.mem_ctl.specs.Data.{CtlData}
 use Rattle.mem_slots.specs.declared.slot_use.SlotUse.{SlotUse}
 use Rattle.mon_enclave.specs.declared.enclave.Enclave.{Enclave}
+use Rattle.mon_fence.specs.declared.fences.Fence.{Fence}
 use Rattle.mon_owner.specs.declared.owners.Owner.{Owner}
 use Rattle.pl_history.specs.declared.line.Line.{Line}
 use Rattle.pl_history.specs.declared.line.AttackLine.{AttackLine}
@@ -25,6 +28,8 @@ pub record WorldData : Type 0 where
   pub ctl : CtlData
   pub owners : List Owner
   pub enclaves : List Enclave
+  pub tlbs : List (List TlbEntry)
+  pub fences : List (Option Fence)
   pub under : List Under
   pub answered : List ℕ
   pub history : HistoryData
@@ -35,6 +40,13 @@ pub record WorldData : Type 0 where
 pub record Event : Type 0 where
   pub world : WorldData
   pub shown : List (List SlotUse)
+
+-- the translations in a hart's TLB, the oldest first
+abbrev pub tlb_at : List (List TlbEntry) → ℕ → List TlbEntry
+tlb_at tlbs hart = unwrap_or (slice_get tlbs hart) []
+
+abbrev pub with_tlb : WorldData → ℕ → List TlbEntry → WorldData
+with_tlb w hart entries = record w { tlbs = slice_set w.tlbs hart entries }
 
 -- how far a hart's line is
 abbrev pub under_at : List Under → ℕ → Under

@@ -6,7 +6,10 @@ mod numbers;
 mod turned;
 mod under;
 
-pub use laws::{faults_need_an_attack, moves_lessen, reached_worlds_stand};
+pub use laws::{
+    accesses_reach_own_pages, faults_need_an_attack, harts_wait_for_fences, moves_lessen,
+    reached_worlds_stand, removed_mappings_stay_unused, roots_walk_to_spaces,
+};
 pub use numbers::numbers_fit;
 pub use turned::{Finished, Turned, Wait};
 pub use under::Under;

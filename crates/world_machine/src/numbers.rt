@@ -1,6 +1,6 @@
 // The numbers within a setup are of their types, which contracts on the whole setup don't see.
-ghost use Rattle.world_machine.specs.Budgets.{IsBudget, HasBudget, HaveBudgets, AreBudgets};
 ghost use Rattle.world_machine.specs.ByteBounds.{AreBytes, ArePageBytes, AreImageBytes};
+ghost use Rattle.world_machine.specs.LineNumbers.{FitsWord, NumbersFit, LinesFit, ScriptsFit};
 
 use mon_image::{Image, ImagePage};
 use pl_base::Listed;
@@ -28,23 +28,24 @@ fn images_fit(images: &[Image])
     }
 }
 
-fn budget_fits(budget: u32)
-    ensures { IsBudget budget }
+fn word_fits(number: u32)
+    ensures { FitsWord number }
 {
-    let _ = budget;
+    let _ = number;
 }
 
 fn line_fits(line: &Line)
-    ensures { HasBudget line.now }
+    ensures { NumbersFit line.now }
 {
     match line {
-        Line::Run { budget, .. } | Line::Resume { budget, .. } => budget_fits(*budget),
+        Line::Map { page, .. } => word_fits(*page),
+        Line::Run { budget, .. } | Line::Resume { budget, .. } => word_fits(*budget),
         _ => {}
     }
 }
 
 fn lines_fit(lines: &[Line])
-    ensures { HaveBudgets lines.now }
+    ensures { LinesFit lines.now }
 {
     for line in lines {
         line_fits(line);
@@ -52,18 +53,18 @@ fn lines_fit(lines: &[Line])
 }
 
 fn scripts_fit(scripts: &[Listed<Line>])
-    ensures { AreBudgets scripts.now }
+    ensures { ScriptsFit scripts.now }
 {
     for lines in scripts {
         lines_fit(lines.as_slice());
     }
 }
 
-/// The bytes of a setup's images are below 256, and its budgets below 2^32, as their types say. It reads no byte and no budget: a walk
-/// over pages and lines, for the contracts.
+/// The bytes of a setup's images are below 256, and the page numbers and budgets of its lines below 2^32, as their types say. It reads no
+/// byte and no number: a walk over pages and lines, for the contracts.
 pub fn numbers_fit(setup: &Setup)
     ensures bytes { AreImageBytes setup.now.images }
-    ensures budgets { AreBudgets setup.now.lines }
+    ensures lines { ScriptsFit setup.now.lines }
 {
     let parts = setup.parts();
     images_fit(parts.images.as_slice());

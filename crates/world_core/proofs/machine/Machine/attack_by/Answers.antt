@@ -1,6 +1,6 @@
 use Rattle.std.proofs.Common.{sym, subst}
 use Rattle.std.specs.Fn.{FnReturnsAt}
-use Rattle.world_core.specs.declared.steps.Attack.{Attack}
+use Rattle.world_core.specs.declared.dues.Attack.{Attack}
 use Rattle.world_core.specs.Turns.{IsTurn, attack_turn}
 use Rattle.world_core.proofs.machine.Machine.attack_by.Goals as goal
 

@@ -1,6 +1,6 @@
 use Rattle.std.proofs.Common.{ap, ◌∙◌}
 use Rattle.std.specs.Fn.{FnReturnsAt}
-use Rattle.world_core.specs.declared.steps.Due.{Due}
+use Rattle.world_core.specs.declared.dues.Due.{Due}
 use Rattle.world_core.specs.Conditions.{pages_due}
 use Rattle.world_core.specs.Turns.{due_turn}
 use Rattle.world_machine.specs.declared.under.Under.{Under}

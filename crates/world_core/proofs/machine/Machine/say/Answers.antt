@@ -1,6 +1,6 @@
 use Rattle.std.proofs.Common.{sym, subst}
 use Rattle.std.specs.Fn.{FnReturnsAt}
-use Rattle.world_core.specs.declared.steps.Due.{Due}
+use Rattle.world_core.specs.declared.dues.Due.{Due}
 use Rattle.world_core.specs.Turns.{IsTurn, say_turn}
 use Rattle.world_core.proofs.machine.Machine.say.Goals as goal
 

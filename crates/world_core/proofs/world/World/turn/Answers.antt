@@ -2,7 +2,7 @@ use Rattle.std.proofs.Common.{◌≡◌, subst, sym}
 use Rattle.std.specs.Prelude.{IsTrue}
 use Rattle.std.specs.Fn.{FnReturnsAt}
 use Rattle.pl_history.specs.Rules.{is_actor}
-use Rattle.world_machine.specs.Adding.{AnswersAtMostOne, actor_number, moves_after}
+use Rattle.world_machine.specs.Adding.{AnswersAtMostOne, moves_after}
 use Rattle.world_machine.specs.Standing.{Kept}
 use Rattle.world_machine.proofs.Bounds.{monitor_retired}
 use Rattle.world_machine.proofs.Kept.{reached_kept}
@@ -25,7 +25,7 @@ pub returns-clause-answer : goal.returns-clause-answer
 returns-clause-answer g c =
     let w = c.self.inside.machine.0 in
     let answers = step_answers g.D.Digester.digest_of (FnReturnsAt g.F.Fn c.self.inside.machine.1) w c.args.actor c.turn.new.self.0 c.turn.ensures.step in
-    subst (λ v. AnswersAtMostOne v.0 (actor_number v.0.setup.harts c.args.actor) c.turn.new.self.0) c.self.view_is answers
+    subst (λ v. AnswersAtMostOne v.0 c.args.actor c.turn.new.self.0) c.self.view_is answers
 
 pub returns-clause-moves : goal.returns-clause-moves
 returns-clause-moves g c =

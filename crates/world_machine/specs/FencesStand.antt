@@ -1,0 +1,38 @@
+-- Each open removal of a hart is of one mapping, its line is the `unmap` of that, and a fence of its page is posted; there is no other fence.
+use Rattle.std.specs.Prelude.{◌≡◌, ℕ, ◌==◌, true, List, [], ◌∷◌, length, map, filter, Option, Some, None}
+use Rattle.pl_base.specs.declared.perms.Perms.{Perms}
+use Rattle.mon_fence.specs.declared.fences.Fence.{Fence}
+use Rattle.mon_fence.specs.Fences.{AreFences, fence_of, needs}
+use Rattle.mon_host.specs.Leaves.{host_space}
+use Rattle.mon_host.specs.Laws.{new_mapping}
+use Rattle.mon_tables.specs.Space.{Mapping}
+use Rattle.pl_history.specs.declared.line.Line.{Line}
+use Rattle.pl_history.specs.declared.line.Line.TheVariants.{Unmap}
+use Rattle.pl_history.specs.Monitor.{Removal}
+use Rattle.world_machine.specs.declared.under.Under.{Under}
+use Rattle.world_machine.specs.declared.under.Under.TheVariants.{Removing}
+
+-- the mappings that a hart is taking away
+abbrev pub removals_by : List Removal → ℕ → List Mapping
+removals_by removals hart = map (λ (r : Removal). r.mapping) (filter (λ (r : Removal). r.hart == hart) removals)
+
+-- a hart without a fence takes nothing away, and one with a fence the mapping of its page
+abbrev pub FenceStands : Option Fence → List Mapping → Type 0
+FenceStands None removed = removed ≡ []
+FenceStands (Some fence) removed = (m : Mapping) × (removed ≡ m ∷ []) × (fence.space ≡ host_space) × (fence.vpn ≡ Some (record { 0 = m.vpn }))
+
+pub record FencesStand (harts : ℕ) (fences : List (Option Fence)) (removals : List Removal) : Type 0 where
+  pub size : length fences ≡ harts
+  pub needs_others : AreFences fences
+  pub each : (hart : ℕ) → FenceStands (fence_of fences hart) (removals_by removals hart)
+
+-- a begun `unmap` takes away the mapping of its address, which led to this page; no other line takes any away
+abbrev pub RemovalStands : Option Line → Under → List Mapping → Type 0
+RemovalStands (Some (Unmap va)) (Removing page) removed = (perms : Perms) × (removed ≡ new_mapping va page perms ∷ [])
+RemovalStands line under removed = removed ≡ []
+
+-- a mapping is being taken away, and the fence of that still needs this hart
+pub record IsOpen (fences : List (Option Fence)) (removals : List Removal) (hart : ℕ) (m : Mapping) : Type 0 where
+  pub poster : ℕ
+  pub removal : removals_by removals poster ≡ m ∷ []
+  pub needed : needs (fence_of fences poster) hart ≡ true
