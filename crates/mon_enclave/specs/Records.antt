@@ -1,5 +1,5 @@
 -- The record of an enclave number, and what each call makes of it.
-use Rattle.std.specs.Prelude.{ℕ, ◌≤◌, ◌==◌, nat_lt, Bool, List, [], ◌∷◌, length, map, replicate, slice_get, slice_set, unwrap_or, Option, None}
+use Rattle.std.specs.Prelude.{ℕ, ◌≤◌, ◌==◌, nat_lt, Bool, List, [], ◌∷◌, ◌++◌, length, map, filter_map, replicate, slice_get, slice_set, unwrap_or, Option, Some, None}
 use Rattle.pl_base.specs.declared.refusal.No.{No}
 use Rattle.pl_base.specs.declared.refusal.No.TheVariants.{NoEnclave, Full, Empty}
 use Rattle.pl_base.specs.declared.state.State.TheVariants.{Free, Building}
@@ -17,6 +17,11 @@ use Rattle.mon_enclave.specs.declared.enclave.Enclave.{Enclave}
 abbrev pub page_number_of : PageKind → ℕ
 page_number_of (Own page) = page
 page_number_of (Shared page) = page
+
+-- a page that is the number's own
+abbrev pub page_if_own : PageKind → Option ℕ
+page_if_own (Own page) = Some page
+page_if_own (Shared page) = None
 
 -- the record of a number that is free from the start
 abbrev pub free_enclave : Enclave
@@ -99,3 +104,11 @@ built number image pages enclave = record {
   hart = enclave.hart;
   parent = None;
 }
+
+-- the pages that a number took from the host: those that are its own, and then the spares that it hasn't used
+abbrev pub pages_held : Enclave → List ℕ
+pages_held enclave = filter_map page_if_own enclave.pages ++ enclave.spares
+
+-- the record of a number that is free again: only its image, its registers and its hart stay, which mean nothing then
+abbrev pub freed : Enclave → Enclave
+freed enclave = record free_enclave { image = enclave.image; context = enclave.context; hart = enclave.hart }

@@ -75,22 +75,22 @@ fn start_registers(pages: usize) -> [u64; 32]
     regs
 }
 
-// Fills the list with these pages.
+// Fills the empty list with these pages.
 fn own(list: &mut Bounded<PageKind, MOST_IMAGE_PAGES>, pages: &[u32])
-    requires { length pages.now ≤ 256 }
+    requires empty { list.old ≡ [] }
+    requires few { length pages.now ≤ 256 }
     ensures { list.new ≡ map PageKind.Own pages.now }
 {
-    list.clear();
     for page in pages {
         list.push(PageKind::Own(*page));
     }
 }
 
 impl Enclave {
-    ghost use Rattle.mon_enclave.specs.Records.{IsEnclave, built, free_enclave, has_room, received_word, send_refusal, take_refusal, taken_word};
+    ghost use Rattle.mon_enclave.specs.Records.{IsEnclave, built, free_enclave, freed, has_room, received_word, send_refusal, take_refusal, taken_word};
 
     // The record of a free number, with room for all that it may hold.
-    pub(crate) fn free(alloc: Global) -> Result<Enclave, AllocError>
+    pub(crate) fn new(alloc: Global) -> Result<Enclave, AllocError>
         ensures { IfOk result (λ enclave. enclave ≡ free_enclave) }
     {
         Ok(Enclave {
@@ -165,21 +165,30 @@ impl Enclave {
         ensures kept { IsEnclave self.new }
     {
         let count = image.pages.as_slice().len();
+        self.free();
         self.image = number;
         own(&mut self.pages, pages);
-        self.spares.clear();
-        self.given = 0;
         self.context = Context {
             regs: start_registers(count),
             pc: image.entry,
         };
+        self.state = State::Building;
+    }
+
+    pub(crate) fn free(&mut self)
+        ensures now { self.new ≡ freed self.old }
+        ensures kept { IsEnclave self.new }
+    {
+        self.pages.clear();
+        self.spares.clear();
+        self.given = 0;
         self.sent.clear();
         self.received = 0;
         self.out.clear();
         self.shown = 0;
         self.taken = 0;
         self.retired = 0;
-        self.state = State::Building;
+        self.state = State::Free;
         self.parent = None;
     }
 

@@ -31,7 +31,7 @@ impl Model for Enclaves {
 }
 
 impl Enclaves {
-    ghost use Rattle.mon_enclave.specs.Records.{IsEnclave, built, enclave_at, free_enclave, has_room, received_word, send_refusal, take_refusal, taken_word, with_enclave};
+    ghost use Rattle.mon_enclave.specs.Records.{IsEnclave, built, enclave_at, free_enclave, freed, has_room, received_word, send_refusal, take_refusal, taken_word, with_enclave};
 
     /// So many free numbers, 1 to 64, with room for all that they may hold.
     pub fn new(alloc: Global, count: u8) -> Result<Enclaves, Memory>
@@ -41,7 +41,7 @@ impl Enclaves {
     {
         let mut enclaves = Vec::with_capacity(alloc, usize::from(count))?;
         for _ in 0..count {
-            enclaves.push(Enclave::free(alloc)?)?;
+            enclaves.push(Enclave::new(alloc)?)?;
         }
         Ok(Enclaves { enclaves })
     }
@@ -107,6 +107,14 @@ impl Enclaves {
         ensures { self.new ≡ with_enclave self.old e.0 (built number image.now pages.now (enclave_at self.old e.0)) }
     {
         self.enclaves[usize::from(e.0)].build(number, image, pages);
+    }
+
+    /// A number is free again, with no pages, no words and no parent. Its image, registers and `hart` stay, which mean nothing then.
+    pub fn free(&mut self, e: EncNo)
+        requires { e.0 < length self.old }
+        ensures { self.new ≡ with_enclave self.old e.0 (freed (enclave_at self.old e.0)) }
+    {
+        self.enclaves[usize::from(e.0)].free();
     }
 
     /// Puts a number into a state.

@@ -21,6 +21,7 @@ enum Call {
     SendOut(u64),
     Left(Why),
     Take,
+    Free,
 }
 
 // An image of two pages.
@@ -82,6 +83,7 @@ fn answer(
         Call::SendOut(word) => return Ok(enclaves.send_out(ONE, word).then_some(word)),
         Call::Left(why) => left(rt, enclaves, why),
         Call::Take => return Ok(Some(enclaves.take(ONE)?)),
+        Call::Free => enclaves.free(ONE),
     }
     Ok(None)
 }
@@ -114,6 +116,9 @@ fn record(rt: &impl Abort, alloc: Global, enclaves: &Enclaves, e: u8) -> Result<
 
 const FREE: &str =
     "Free on 0 pc 0 x2 0 retired 0 sent [] 0 out [] 0 0 image 0 pages [] spares [] of 0 parent None";
+
+const FREED: &str =
+    "Free on 2 pc 1000c x2 12000 retired 0 sent [] 0 out [] 0 0 image 3 pages [] spares [] of 0 parent None";
 
 const OWN: &str = "image 3 pages [Own(9), Own(4)] spares [] of 0 parent None";
 
@@ -194,16 +199,6 @@ fn a_number_from_free_to_built_again(rt: HostRuntime) -> Result<(), Fail> {
             Ok(Some(8)),
             "Paused on 2 pc 1000c x2 12000 retired 1 sent [5, 8] 2 out [6, 7] 2 2",
         ),
-        (
-            Call::SetState(State::Free),
-            Ok(None),
-            "Free on 2 pc 1000c x2 12000 retired 1 sent [5, 8] 2 out [6, 7] 2 2",
-        ),
-        (
-            Call::Build,
-            Ok(None),
-            "Building on 2 pc 10008 x2 12000 retired 0 sent [] 0 out [] 0 0",
-        ),
     ] {
         let before = record(&rt, alloc, &enclaves, 1)?;
         assert_eq!(rt; answer(&rt, &mut enclaves, &image, call), want, "{call:?}");
@@ -214,6 +209,13 @@ fn a_number_from_free_to_built_again(rt: HostRuntime) -> Result<(), Fail> {
             assert_eq!(rt; now, format!(in alloc; "{after} {OWN}")?, "{call:?}");
         }
     }
+    assert_eq!(rt; answer(&rt, &mut enclaves, &image, Call::Free), Ok(None));
+    assert_eq!(rt; record(&rt, alloc, &enclaves, 1)?.as_str(), FREED);
+    assert_eq!(rt; answer(&rt, &mut enclaves, &image, Call::Build), Ok(None));
+    assert_eq!(rt;
+        record(&rt, alloc, &enclaves, 1)?,
+        format!(in alloc; "Building on 2 pc 10008 x2 12000 retired 0 sent [] 0 out [] 0 0 {OWN}")?
+    );
     assert_eq!(rt; record(&rt, alloc, &enclaves, 0)?.as_str(), FREE);
     Ok(())
 }

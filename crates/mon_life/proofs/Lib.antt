@@ -1,4 +1,7 @@
 pub mod BegunLemmas
+pub mod DestroyLaws
+pub mod GivenBack
+pub mod HeldLemmas
 pub mod LeafLemmas
 pub mod PutLemmas
 pub mod StepLemmas

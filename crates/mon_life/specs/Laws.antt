@@ -1,12 +1,21 @@
 -- When a number may be made, and what the pages come to that its line puts, once all of them stand: the image in the number's pages, and
--- tables that walk to its space.
-use Rattle.std.specs.Prelude.{ℕ, ◌≡◌, ◌≢◌, ◌↔◌, ◌+◌, ◌-◌, ◌*◌, ◌/◌, ◌%◌, ◌<◌, ◌≤◌, true, IsTrue, List, length, map, All, slice_get, Some, None}
+-- tables that walk to its space. When it may be given back, and what that leaves.
+use Rattle.std.specs.Prelude.{ℕ, ◌≡◌, ◌≢◌, ◌↔◌, ◌+◌, ◌-◌, ◌*◌, ◌/◌, ◌%◌, ◌<◌, ◌≤◌, true, false, IsTrue, List, length, map, All, slice_get, Option, Some, None}
 use Rattle.byteorder.specs.Endian.{little_number}
-use Rattle.pl_base.specs.Bytes.{bytes_at}
-use Rattle.pl_base.specs.Pages.{first_twice}
+use Rattle.pl_base.specs.Bytes.{bytes_at, zero_page}
+use Rattle.pl_base.specs.HartSet.{space_of_number}
+use Rattle.pl_base.specs.Pages.{first_twice, is_among}
 use Rattle.pl_base.specs.Perms.{are_page_perms}
-use Rattle.pl_base.specs.States.{is_free}
+use Rattle.pl_base.specs.States.{is_absent, is_free, is_under_way}
 use Rattle.pl_base.specs.declared.access.Mode.TheVariants.{User}
+use Rattle.pl_base.specs.declared.address.Vpn.{Vpn}
+use Rattle.pl_base.specs.declared.number.EncNo.{EncNo}
+use Rattle.pl_base.specs.declared.state.State.TheVariants.{Dying}
+use Rattle.mem_geom.specs.Parts.{page_bytes}
+use Rattle.mem_ctl.specs.Data.{CtlData, with_off_chip}
+use Rattle.mem_ctl.specs.TreesHold.{IsKept}
+use Rattle.mon_fence.specs.declared.fences.Fence.{Fence}
+use Rattle.mon_fence.specs.Fences.{covers, fence_of}
 use Rattle.rv_pmp.specs.declared.rule.Rule.{Rule}
 use Rattle.rv_pmp.specs.Pmp.{page_allowed}
 use Rattle.mon_image.specs.declared.image.Image.{Image}
@@ -19,7 +28,8 @@ use Rattle.mon_tables.specs.Tables.{root_of}
 use Rattle.mon_enclave.specs.declared.enclave.PageKind.{PageKind}
 use Rattle.mon_enclave.specs.declared.enclave.PageKind.TheVariants.{Own}
 use Rattle.mon_enclave.specs.declared.enclave.Enclave.{Enclave}
-use Rattle.mon_enclave.specs.Records.{enclave_at, page_number_of}
+use Rattle.mon_enclave.specs.Records.{built, enclave_at, freed, page_number_of, pages_held}
+use Rattle.mon_life.specs.Destroying.{DestroyBegun, DestroyEnded, destroy_begun, destroy_ended, held_by}
 use Rattle.mon_life.specs.Making.{create_refusal_of}
 use Rattle.mon_life.specs.Pages.{image_put, leaves_of, page_put_at}
 
@@ -91,3 +101,56 @@ StepsApart = (tables numbers e all_pages : ℕ) (image : Image) (kinds : List Pa
 abbrev pub StepsAreWhole : Type 0
 StepsAreWhole = (tables numbers e all_pages : ℕ) (image : Image) (kinds : List PageKind) (at : ℕ) → IsMaking tables numbers e all_pages image kinds
     → All (λ (page : ImagePage). length page.bytes ≡ 4096) image.pages → length (page_put_at tables e image kinds at).bytes ≡ 4096
+
+-- ---- giving back
+
+-- number e may be given back: it was made as an enclave, and no line has it under way
+pub record MayDestroy (enclaves : List Enclave) (e : ℕ) : Type 0 where
+  pub there : is_absent (enclave_at enclaves e).state ≡ false
+  pub at_rest : is_under_way (enclave_at enclaves e).state ≡ false
+
+-- nothing else is refused; where it begins, the number is dying, and the hart's fence covers each page of its space
+pub record DestroyBegins (enclaves : List Enclave) (fences : List (Option Fence)) (h : ℕ) (e : EncNo) (begun : DestroyBegun) : Type 0 where
+  pub refused : (begun.refusal ≡ None) ↔ MayDestroy enclaves e.0
+  pub dying : begun.refusal ≡ None → (enclave_at begun.enclaves e.0).state ≡ Dying
+  pub fenced : begun.refusal ≡ None → (vpn : Vpn) → covers (space_of_number e) vpn (fence_of begun.fences h) ≡ true
+
+abbrev pub DestroysBegin : Type 0
+DestroysBegin = (enclaves : List Enclave) (fences : List (Option Fence)) (h : ℕ) (e : EncNo) → e.0 < length enclaves → h < length fences
+    → DestroyBegins enclaves fences h e (destroy_begun enclaves fences h e)
+
+module _ (digest_of : List ℕ → List ℕ) where
+  -- what is left of a number that held these pages, once it is given back
+  pub record IsGivenBack (ctl : CtlData) (owners : List Owner) (enclaves : List Enclave) (fences : List (Option Fence)) (h e : ℕ) (ended : DestroyEnded) : Type 0 where
+    -- off chip its pages are zero; all other pages, all nodes and the root table are as before
+    pub zeroed : (page : ℕ) → is_among (held_by enclaves e) page ≡ true → page_bytes ended.ctl.off_chip page ≡ zero_page
+    pub other_pages : (page : ℕ) → is_among (held_by enclaves e) page ≡ false → page_bytes ended.ctl.off_chip page ≡ page_bytes ctl.off_chip page
+    pub other_bytes : (index : ℕ) → is_among (held_by enclaves e) (index / 4096) ≡ false → slice_get ended.ctl.off_chip index ≡ slice_get ctl.off_chip index
+    pub nodes : (index : ℕ) → 4096 * (64 * ctl.zones) ≤ index → slice_get ended.ctl.off_chip index ≡ slice_get ctl.off_chip index
+    -- the mirror, the slots and the root on chip are as before, and the trees hold
+    pub off_chip_alone : ended.ctl ≡ with_off_chip ctl ended.ctl.off_chip
+    pub kept : IsKept digest_of ended.ctl
+    -- its pages are the host's, with no mappings, and each other page its owner's
+    pub given : (page : ℕ) → is_among (held_by enclaves e) page ≡ true → slice_get ended.owners page ≡ Some (owner.Host 0)
+    pub other_owners : (page : ℕ) → is_among (held_by enclaves e) page ≡ false → slice_get ended.owners page ≡ slice_get owners page
+    pub as_many_owners : length ended.owners ≡ length owners
+    -- its record is that of a free number, and each other number has its own
+    pub free : enclave_at ended.enclaves e ≡ freed (enclave_at enclaves e)
+    pub other_numbers : (other : ℕ) → other ≢ e → enclave_at ended.enclaves other ≡ enclave_at enclaves other
+    -- the hart has no fence, and each other hart its own
+    pub left : fence_of ended.fences h ≡ None
+    pub other_fences : (other : ℕ) → other ≢ h → fence_of ended.fences other ≡ fence_of fences other
+
+  abbrev pub NumbersAreGivenBack : Type 0
+  NumbersAreGivenBack = (ctl : CtlData) (owners : List Owner) (enclaves : List Enclave) (fences : List (Option Fence)) (h e : ℕ) → IsKept digest_of ctl
+      → length owners ≡ 64 * ctl.zones → e < length enclaves → h < length fences → All (λ page. page < 64 * ctl.zones) (held_by enclaves e)
+      → IsGivenBack ctl owners enclaves fences h e (destroy_ended ctl owners enclaves fences h e)
+
+-- whatever a record was, the one that is built of it is the same, but for the hart that it was last on
+abbrev pub NothingIsLeft : Type 0
+NothingIsLeft = (number : ℕ) (image : Image) (pages : List ℕ) (one other : Enclave)
+    → built number image pages one ≡ record (built number image pages other) { hart = one.hart }
+
+-- one that is built holds just the pages that it is built in
+abbrev pub BuiltHolds : Type 0
+BuiltHolds = (number : ℕ) (image : Image) (pages : List ℕ) (enclave : Enclave) → pages_held (built number image pages enclave) ≡ pages

@@ -1,3 +1,4 @@
+pub mod Destroying
 pub mod Laws
 pub mod Making
 pub mod Pages
@@ -6,4 +7,5 @@ pub mod Running
 pub use Rattle.mem_ctl.specs.Stops
 pub use Rattle.mem_slots.specs.Choices
 pub use Rattle.mon_enclave.specs.Records
+pub use Rattle.mon_fence.specs.Fences
 pub use Rattle.pl_base.specs.Perms

@@ -1,5 +1,6 @@
-// What the steps of a line make. Each law is the contract of a function that does nothing.
-ghost use Rattle.mon_life.specs.Laws.{BegunIsMaking, ImageStands, OthersAreRefused, StepsApart, StepsAreWhole, StepsInside, TablesWalk};
+// What the steps of a line make, and what it leaves to give a number back. Each law is the contract of a function that does nothing.
+ghost use Rattle.std.specs.Prelude.{List, ℕ};
+ghost use Rattle.mon_life.specs.Laws.{BegunIsMaking, BuiltHolds, DestroysBegin, ImageStands, NothingIsLeft, NumbersAreGivenBack, OthersAreRefused, StepsApart, StepsAreWhole, StepsInside, TablesWalk};
 
 use mon_tables::number_tables_walk;
 
@@ -23,3 +24,17 @@ pub fn steps_put_tables()
 {
     number_tables_walk();
 }
+
+/// A number is refused exactly where it may not be given back; where it may, it is dying, and a fence covers each page of its space.
+pub fn destroys_begin()
+    ensures { DestroysBegin }
+{}
+
+/// For every digest function: a number's pages are zeroed pages of the host, and no other page, node, owner, number or fence changes; the
+/// mirror stays, and the trees hold. Nothing of the old number is left in one that is built again, which holds just the pages that it is built
+/// in.
+pub fn numbers_are_given_back()
+    ensures back { (digest_of : List ℕ → List ℕ) → NumbersAreGivenBack digest_of }
+    ensures anew { NothingIsLeft }
+    ensures holds { BuiltHolds }
+{}

@@ -1,15 +1,20 @@
-//! The monitor's steps that make enclaves and shadows, and enter enclaves.
+//! The monitor's steps that make enclaves and shadows, enter enclaves, and give them back.
 //!
 //! `create` and `shadow` begin by `create_begin`, and then put one page with each `create_step`. `run` and `resume` begin by `run_begin`.
+//! `destroy` begins by `destroy_begin`, which posts a fence, and ends by `destroy_end` once nobody is lacking.
 #![tactic(auto)]
 
+mod destroying;
 mod laws;
 mod making;
 mod pages;
 mod putting;
 mod running;
 
-pub use laws::{creates_are_refused, steps_put_pages, steps_put_tables};
+pub use destroying::{destroy_begin, destroy_end};
+pub use laws::{
+    creates_are_refused, destroys_begin, numbers_are_given_back, steps_put_pages, steps_put_tables,
+};
 pub use making::create_begin;
 pub use putting::create_step;
 pub use running::run_begin;

@@ -1,9 +1,17 @@
-// Numbers that are begun and entered, by hand.
-use crate::{create_begin, run_begin};
+// Numbers that are begun, entered and given back, by hand.
+ghost use Rattle.std.specs.Prelude.{◌≡◌, ◌<◌, [], ◌∷◌, IfOk, length};
+ghost use Rattle.mem_slots.specs.Choices.{NamesPosition};
+ghost use Rattle.mon_life.specs.Destroying.{held_by};
+
+use crate::{create_begin, destroy_begin, destroy_end, run_begin};
+use mem_ctl::Ctl;
+use mem_slots::{Choice, SlotUse, first_mounted};
 use mon_enclave::Enclaves;
+use mon_fence::Fences;
 use mon_image::{Image, ImagePage, ImagePages, PageBytes};
 use mon_owner::{Owner, Owners};
-use pl_base::{EncNo, HartNo, No, Perms, State};
+use pl_base::{EncNo, HartNo, Memory, No, Perms, Space, State, Vpn};
+use pl_digest::OneByte;
 use rv_pmp::{Pmp, Rule};
 use std::alloc::{AllocError, Global};
 use std::process::Abort;
@@ -157,5 +165,118 @@ fn an_enclave_is_entered_from_fresh_or_paused(rt: HostRuntime) -> Result<(), Fai
     assert!(rt; 1 < enclaves.len());
     assert_eq!(rt; enclaves.get(EncNo(1)).hart, HartNo(2));
     assert_eq!(rt; enclaves.get(EncNo(1)).state, State::On);
+    Ok(())
+}
+
+// Whether giving number 1 back fences the number's space, where it begins.
+fn give_back(rt: &impl Abort, enclaves: &mut Enclaves, state: State) -> Result<bool, No> {
+    assert!(rt; 1 < enclaves.len());
+    let mut fences = Fences::new(2);
+    enclaves.set_state(EncNo(1), state);
+    destroy_begin(enclaves, &mut fences, HartNo(1), EncNo(1))?;
+    Ok(fences.covers(Space(2), Vpn(7)) && !fences.covers(Space(1), Vpn(7)))
+}
+
+#[test]
+fn an_enclave_is_given_back_where_no_line_has_it(rt: HostRuntime) -> Result<(), Fail> {
+    let mut enclaves = Enclaves::new(rt.alloc(), 2)?;
+    for (state, want) in [
+        (State::Free, Err(No::NoEnclave)),
+        (State::Sealed, Err(No::NoEnclave)),
+        (State::On, Err(No::WrongState(State::On))),
+        (State::Building, Err(No::WrongState(State::Building))),
+        (State::Dying, Err(No::WrongState(State::Dying))),
+        (State::Fresh, Ok(true)),
+        (State::Faulted, Ok(true)),
+    ] {
+        assert_eq!(rt; give_back(&rt, &mut enclaves, state), want, "{state:?}");
+    }
+    assert!(rt; 1 < enclaves.len());
+    assert_eq!(rt; enclaves.get(EncNo(1)).state, State::Dying);
+    Ok(())
+}
+
+// One zone, with nothing in it.
+fn zone<F: Fn(&[SlotUse]) -> usize>(
+    alloc: Global,
+    choice: Choice<F>,
+) -> Result<Ctl<OneByte, F>, Memory>
+    requires { NamesPosition F.Fn choice }
+    ensures { IfOk result (λ ctl. ctl.0.zones ≡ 1) }
+{
+    let ctl = Ctl::new(alloc, OneByte, 1, 1, &[], choice)?;
+    Ok(ctl)
+}
+
+// A word is written at the end of a page.
+fn write<F>(ctl: &mut Ctl<OneByte, F>, page: u32)
+    requires zone { ctl.old.0.zones ≡ 1 }
+    requires page { page < 64 }
+    ensures { ctl.new.0.zones ≡ 1 }
+{
+    ctl.raw_write(page, 4088, 9);
+}
+
+// The words at the end of three pages.
+fn words<F>(ctl: &Ctl<OneByte, F>) -> [u64; 3]
+    requires { ctl.now.0.zones ≡ 1 }
+{
+    [
+        ctl.raw_read(21, 4088),
+        ctl.raw_read(22, 4088),
+        ctl.raw_read(63, 4088),
+    ]
+}
+
+// The owners of 64 pages, of which three are number 0's.
+fn taken(alloc: Global) -> Result<Owners, Memory>
+    ensures { IfOk result (λ owners. length owners ≡ 64) }
+{
+    let mut owners = Owners::new(alloc, 9, 64)?;
+    owners.take_all(&[21, 22, 63], Owner::Enclave(EncNo(0)));
+    Ok(owners)
+}
+
+// Number 0 is built in two of them.
+fn built(rt: &impl Abort, alloc: Global) -> Result<Enclaves, Fail>
+    ensures one { IfOk result (λ all. length all ≡ 1) }
+    ensures held { IfOk result (λ all. held_by all 0 ≡ 21 ∷ 63 ∷ []) }
+{
+    let image = image(rt, alloc, 2)?;
+    assert!(rt; image.pages.as_slice().len() == 2);
+    let mut enclaves = Enclaves::new(alloc, 1)?;
+    enclaves.build(EncNo(0), 7, &image, &[21, 63]);
+    Ok(enclaves)
+}
+
+// Number 0 is given back by the one hart.
+fn end<F>(ctl: &mut Ctl<OneByte, F>, owners: &mut Owners, enclaves: &mut Enclaves)
+    requires zone { ctl.old.0.zones ≡ 1 }
+    requires owners { length owners.old ≡ 64 }
+    requires one { length enclaves.old ≡ 1 }
+    requires held { held_by enclaves.old 0 ≡ 21 ∷ 63 ∷ [] }
+    ensures zone { ctl.new.0.zones ≡ 1 }
+    ensures one { length enclaves.new ≡ 1 }
+{
+    let mut fences = Fences::new(1);
+    fences.post(HartNo(0), Space(1), None);
+    destroy_end(ctl, owners, enclaves, &mut fences, HartNo(0), EncNo(0));
+}
+
+#[test]
+fn its_pages_are_zeroed_pages_of_the_host(rt: HostRuntime) -> Result<(), Fail> {
+    let oldest = Choice::new(|slots: &[SlotUse]| first_mounted(slots));
+    let mut ctl = zone(rt.alloc(), oldest)?;
+    let mut owners = taken(rt.alloc())?;
+    let mut enclaves = built(&rt, rt.alloc())?;
+    write(&mut ctl, 21);
+    write(&mut ctl, 22);
+    write(&mut ctl, 63);
+    end(&mut ctl, &mut owners, &mut enclaves);
+    assert_eq!(rt; words(&ctl), [0, 9, 0]);
+    assert_eq!(rt; owners.of(21), Some(Owner::Host { maps: 0 }));
+    assert_eq!(rt; owners.of(22), Some(Owner::Enclave(EncNo(0))));
+    assert_eq!(rt; owners.of(63), Some(Owner::Host { maps: 0 }));
+    assert_eq!(rt; enclaves.get(EncNo(0)).state, State::Free);
     Ok(())
 }

@@ -1,1 +1,1 @@
-mod OwnerLists
+pub mod OwnerLists

@@ -1,11 +1,11 @@
 -- Owners of listed pages, one page after the other.
-use Rattle.std.proofs.Common.{◌≡◌, ℕ, ◌+◌, ◌<◌, Bool, eqb, cond, ◌||◌, List, [], length, get_or, take, set, length-set, ap, sym, ◌∙◌, subst, zero-add, inl, inr}
-use Rattle.std.proofs.lemmas.Bool.{cases_Bool, eqb-true, eqb-false}
+use Rattle.std.proofs.Common.{◌≡◌, ℕ, ◌+◌, ◌<◌, ◌≤◌, Bool, true, false, eqb, cond, ◌||◌, List, [], length, get_or, slice_get, take, set, Some, length-set, ap, sym, ◌∙◌, subst, zero-add, inl, inr}
+use Rattle.std.proofs.lemmas.Bool.{cases_Bool, cases_lt, eqb-true, eqb-false}
 use Rattle.std.proofs.Math.Bool.{or-true, or-false}
 use Rattle.std.proofs.lemmas.List.{ext_get_or, get_or-set_same, get_or-set_other}
 use Rattle.std.proofs.lemmas.List.Folds.{list_any_more}
 use Rattle.std.proofs.lemmas.List.FromFn.{get_or-map-range_with_len, length-map-range_with_len}
-use Rattle.std.proofs.lemmas.Option.{unwrap_or-slice_get}
+use Rattle.std.proofs.lemmas.Option.{slice_get-get_or, slice_get_past, unwrap_or-slice_get}
 use Rattle.pl_base.specs.Pages.{is_among}
 use Rattle.mon_owner.specs.declared.owners.Owner.{Owner}
 use Rattle.mon_owner.specs.declared.owners.Owner.TheVariants.{Guard}
@@ -22,6 +22,25 @@ module _ (owners : List Owner) (to : Owner) where
   get-given_to : (pages : List ℕ) (i : ℕ) (d : Owner) → i < length owners → get_or (given_to owners pages to) i d ≡ owner_now pages i
   unfolding given_to owner_now
   get-given_to pages i d below = get_or-map-range_with_len (owner_now pages) 0 (length owners) i i d below (zero-add i)
+
+  -- a listed page has the new owner
+  pub given_listed : (pages : List ℕ) (page : ℕ) → page < length owners → is_among pages page ≡ true → slice_get (given_to owners pages to) page ≡ Some to
+  unfolding owner_now
+  given_listed pages page below among =
+      slice_get-get_or (given_to owners pages to) page Guard (subst (λ n. page < n) (sym (length-given_to pages)) below)
+      ∙ ap Some (get-given_to pages page Guard below ∙ ap (λ t. cond t to (owner_at owners page)) among)
+
+  -- and any other its own
+  pub given_other : (pages : List ℕ) (page : ℕ) → is_among pages page ≡ false → slice_get (given_to owners pages to) page ≡ slice_get owners page
+  unfolding owner_now
+  given_other pages page other = elim (cases_lt page (length owners)) [
+    | inl below ↦
+        slice_get-get_or (given_to owners pages to) page Guard (subst (λ n. page < n) (sym (length-given_to pages)) below)
+        ∙ ap Some (get-given_to pages page Guard below ∙ ap (λ t. cond t to (owner_at owners page)) other ∙ unwrap_or-slice_get owners page Guard)
+        ∙ sym (slice_get-get_or owners page Guard below)
+    | inr past ↦
+        slice_get_past (given_to owners pages to) page (subst (λ n. n ≤ page) (sym (length-given_to pages)) past) ∙ sym (slice_get_past owners page past)
+  ]
 
   pub given_to-none : given_to owners [] to ≡ owners
   unfolding owner_now

@@ -3,9 +3,10 @@ use penglai_main::{Status, rule_text};
 use std::io;
 use std::io::Eprint;
 
-const USAGE: &str = "usage: penglai COMMAND < SETUP
-  solo      runs the setup in the order that it gives, and prints its history and report
-  measure   prints the measurement of each image
+const USAGE: &str = "usage: penglai COMMAND
+  solo < SETUP      runs the setup in the order that it gives, and prints its history and report
+  measure < SETUP   prints the measurement of each image
+  generate N        runs the generated load with the number N, from 0 to 65535, and prints a summary of its history and the report
 The setup is TOML text on standard input; docs/FORMATS.md has its keys, its lines and what is printed.
 An example: ./penglai solo < examples/first.toml";
 

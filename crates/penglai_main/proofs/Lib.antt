@@ -1,3 +1,5 @@
+pub mod EntryLemmas
+pub mod LoadLemmas
 pub mod MeasureLemmas
 pub mod SoloLemmas
 pub mod TopLemmas

@@ -21,6 +21,7 @@ use Rattle.world_machine.proofs.Kept.{reached_kept}
 use Rattle.world_machine.proofs.RemovedMappings.{removed_stay_unused}
 use Rattle.world_machine.proofs.Stepping.{Ran-reached, Ran-setup, Ran-snoc}
 use Rattle.world_machine.proofs.Undisturbed.{undisturbed}
+use Rattle.penglai_main.specs.declared.solo.Printed.{Printed}
 use Rattle.penglai_main.specs.declared.status.Status.{Status}
 use Rattle.penglai_main.specs.declared.status.Status.TheVariants as status_is
 use Rattle.penglai_main.specs.Ends.{Ends}
@@ -59,33 +60,33 @@ module _ (digest_of : List ℕ → List ℕ) (law : (m : List ℕ) → length (d
             (is.faultless, not_by_collision w end (ends_by digest_of w kept end plays.over) is);
       }
 
-module _ (digest_of : List ℕ → List ℕ) (gives : Gives) (setup : SetupParts) (w : WorldData) where
-  written : (end : Finished) (sink : Ends) → IsRunOf digest_of gives setup end w → Appends sink.old sink.new (run_text w end) → PlayedTo digest_of gives setup w sink (status_of end)
+module _ (digest_of : List ℕ → List ℕ) (gives : Gives) (setup : SetupParts) (printed : Printed) (w : WorldData) where
+  written : (end : Finished) (sink : Ends) → IsRunOf digest_of gives setup end w → Appends sink.old sink.new (run_text printed w end) → PlayedTo digest_of gives setup printed w sink (status_of end)
   written finished.Done sink is all = (is, all)
   written finished.Collision sink is all = (is, all)
   written finished.Stuck sink is all = (is, all)
 
-  module _ (end : Finished) (a b : Option (List ℕ)) (f g : ℕ) (r : Result (Unit {0}) Fails) (is : IsRunOf digest_of gives setup end w) (puts : Puts a b f g (run_text w end) r) where
-    pub played_whole : (x : Unit {0}) (status : Status) → r ≡ Ok x → status ≡ status_of end → PlayedTo digest_of gives setup w (record { old = a; new = b; before = f; now = g }) status
+  module _ (end : Finished) (a b : Option (List ℕ)) (f g : ℕ) (r : Result (Unit {0}) Fails) (is : IsRunOf digest_of gives setup end w) (puts : Puts a b f g (run_text printed w end) r) where
+    pub played_whole : (x : Unit {0}) (status : Status) → r ≡ Ok x → status ≡ status_of end → PlayedTo digest_of gives setup printed w (record { old = a; new = b; before = f; now = g }) status
     played_whole x status ok of_end =
-        subst (PlayedTo digest_of gives setup w (record { old = a; new = b; before = f; now = g })) (sym of_end)
-        (written end (record { old = a; new = b; before = f; now = g }) is (subst (λ (s : Result (Unit {0}) Fails). OnOk s (Appends a b (run_text w end))) ok puts.whole))
+        subst (PlayedTo digest_of gives setup printed w (record { old = a; new = b; before = f; now = g })) (sym of_end)
+        (written end (record { old = a; new = b; before = f; now = g }) is (subst (λ (s : Result (Unit {0}) Fails). OnOk s (Appends a b (run_text printed w end))) ok puts.whole))
 
-    pub played_part : (e : Fails) → r ≡ Err e → PlayedTo digest_of gives setup w (record { old = a; new = b; before = f; now = g }) status_is.WriteFault
+    pub played_part : (e : Fails) → r ≡ Err e → PlayedTo digest_of gives setup printed w (record { old = a; new = b; before = f; now = g }) status_is.WriteFault
     played_part e err = (
       subst (λ (s : Result (Unit {0}) Fails). OnErr s (Rose f g)) err puts.cause.failed,
-      (end, is, subst (λ (s : Result (Unit {0}) Fails). OnErr s (AppendsPrefix a b (run_text w end))) err puts.part),
+      (end, is, subst (λ (s : Result (Unit {0}) Fails). OnErr s (AppendsPrefix a b (run_text printed w end))) err puts.part),
     )
 
-pub run_ends : (digest_of : List ℕ → List ℕ) (gives : Gives) (setup : SetupParts) (w : WorldData) (sink : Ends) (status : Status) → PlayedTo digest_of gives setup w sink status → RunEnds digest_of gives setup sink status
-run_ends digest_of gives setup w sink status_is.Done k = (w, k)
-run_ends digest_of gives setup w sink status_is.Collision k = (w, k)
-run_ends digest_of gives setup w sink status_is.Stuck k = (w, k)
-run_ends digest_of gives setup w sink status_is.WriteFault k = (w, k)
-run_ends digest_of gives setup w sink status_is.BadWords k = absurd k
-run_ends digest_of gives setup w sink status_is.ReadFault k = absurd k
-run_ends digest_of gives setup w sink (status_is.BadSetup rule item cause) k = absurd k
-run_ends digest_of gives setup w sink status_is.NoMemory k = absurd k
+pub run_ends : (digest_of : List ℕ → List ℕ) (gives : Gives) (setup : SetupParts) (printed : Printed) (w : WorldData) (sink : Ends) (status : Status) → PlayedTo digest_of gives setup printed w sink status → RunEnds digest_of gives setup printed sink status
+run_ends digest_of gives setup printed w sink status_is.Done k = (w, k)
+run_ends digest_of gives setup printed w sink status_is.Collision k = (w, k)
+run_ends digest_of gives setup printed w sink status_is.Stuck k = (w, k)
+run_ends digest_of gives setup printed w sink status_is.WriteFault k = (w, k)
+run_ends digest_of gives setup printed w sink status_is.BadWords k = absurd k
+run_ends digest_of gives setup printed w sink status_is.ReadFault k = absurd k
+run_ends digest_of gives setup printed w sink (status_is.BadSetup rule item cause) k = absurd k
+run_ends digest_of gives setup printed w sink status_is.NoMemory k = absurd k
 
 -- one more turn of the order
 pub turn_more : (digest_of : List ℕ → List ℕ) (gives : Gives) (old mid new : WorldData) (order seen : List Actor) (at : ℕ) (actor d : Actor) → seen ≡ order → at < length order → actor ≡ get_or seen at d

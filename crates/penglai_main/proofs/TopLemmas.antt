@@ -6,6 +6,7 @@ use Rattle.pl_history.specs.declared.setup.SetupParts.{SetupParts}
 use Rattle.pl_history.specs.declared.setup.ChoiceName.{ChoiceName}
 use Rattle.world_machine.specs.declared.turned.Finished.{Finished}
 use Rattle.world_machine.specs.declared.turned.Finished.TheVariants as finished
+use Rattle.penglai_main.specs.declared.solo.Printed.TheVariants as printed_is
 use Rattle.penglai_main.specs.declared.status.Status.{Status}
 use Rattle.penglai_main.specs.declared.status.Status.TheVariants as status_is
 use Rattle.penglai_main.specs.declared.top.Command.TheVariants.{Measure, Solo}
@@ -38,15 +39,15 @@ module _ (gives other : ChoiceName → Gives) (source sink : Ends) where
 
 module _ (gives : ChoiceName → Gives) (source sink : Ends) where
   -- a run of the setup that was read
-  pub explained : (setup : SetupParts) (status : Status) → Obtains runnable_of source (Ok setup) → RunEnds sha256 (gives setup.choice) setup sink status → Explains gives Solo source sink status
+  pub explained : (setup : SetupParts) (status : Status) → Obtains runnable_of source (Ok setup) → RunEnds sha256 (gives setup.choice) setup printed_is.History sink status → Explains gives Solo source sink status
   explained setup status_is.Done read k =
-      (run_text k.0 finished.Done, record { at_end = read.0; setup = setup; reads = read.1; world = k.0; run = k.1.0; text_is = refl }, k.1.1)
+      (run_text printed_is.History k.0 finished.Done, record { at_end = read.0; setup = setup; reads = read.1; world = k.0; run = k.1.0; text_is = refl }, k.1.1)
   explained setup status_is.Collision read k =
-      (run_text k.0 finished.Collision, record { at_end = read.0; setup = setup; reads = read.1; world = k.0; run = k.1.0; text_is = refl }, k.1.1)
+      (run_text printed_is.History k.0 finished.Collision, record { at_end = read.0; setup = setup; reads = read.1; world = k.0; run = k.1.0; text_is = refl }, k.1.1)
   explained setup status_is.Stuck read k =
-      (run_text k.0 finished.Stuck, record { at_end = read.0; setup = setup; reads = read.1; world = k.0; run = k.1.0; text_is = refl }, k.1.1)
+      (run_text printed_is.History k.0 finished.Stuck, record { at_end = read.0; setup = setup; reads = read.1; world = k.0; run = k.1.0; text_is = refl }, k.1.1)
   explained setup status_is.WriteFault read k =
-      (k.1.0, (run_text k.0 k.1.1.0, inl (k.1.1.0, record { at_end = read.0; setup = setup; reads = read.1; world = k.0; run = k.1.1.1; text_is = refl }), k.1.1.2))
+      (k.1.0, (run_text printed_is.History k.0 k.1.1.0, inl (k.1.1.0, record { at_end = read.0; setup = setup; reads = read.1; world = k.0; run = k.1.1.1; text_is = refl }), k.1.1.2))
   explained setup status_is.NoMemory read k = k
   explained setup status_is.BadWords read k = absurd k.1
   explained setup status_is.ReadFault read k = absurd k.1

@@ -2,6 +2,7 @@
 use Rattle.std.specs.Prelude.{◌≡◌, ◌≢◌, ℕ, List, ◌++◌}
 use Rattle.mem_slots.specs.declared.slot_use.SlotUse.{SlotUse}
 use Rattle.pl_history.specs.declared.setup.SetupParts.{SetupParts}
+use Rattle.pl_history.specs.Summary.{summary_text}
 use Rattle.pl_history.specs.Text.{text_of}
 use Rattle.pl_history.specs.Unattacked.{IsFaultless, IsUnattacked}
 use Rattle.world_core.specs.Report.{world_report}
@@ -13,6 +14,8 @@ use Rattle.world_machine.specs.Reached.{Reached, opening_world}
 use Rattle.world_machine.specs.Runs.{Plays}
 use Rattle.world_machine.specs.Standing.{Kept}
 use Rattle.world_machine.specs.Worlds.{WorldData}
+use Rattle.penglai_main.specs.declared.solo.Printed.{Printed}
+use Rattle.penglai_main.specs.declared.solo.Printed.TheVariants as printed_is
 use Rattle.penglai_main.specs.declared.status.Status.{Status}
 use Rattle.penglai_main.specs.declared.status.Status.TheVariants as status_is
 use Rattle.penglai_main.specs.Ends.{Ends, Writes, WritesPrefix, WritesNothing, Failed}
@@ -21,9 +24,14 @@ use Rattle.penglai_main.specs.Ends.{Ends, Writes, WritesPrefix, WritesNothing, F
 abbrev pub Gives : Type 1
 Gives = List SlotUse → ℕ → Type 0
 
--- the whole output: the history, a line an entry, and the report
-abbrev pub run_text : WorldData → Finished → List ℕ
-run_text w end = text_of w.setup.harts w.history ++ world_report w end
+-- what is printed of a history: all of it, a line an entry, or its summary
+abbrev pub history_text : Printed → WorldData → List ℕ
+history_text printed_is.History w = text_of w.setup.harts w.history
+history_text printed_is.Summary w = summary_text w.history.entries
+
+-- the whole output: this, and the report
+abbrev pub run_text : Printed → WorldData → Finished → List ℕ
+run_text printed w end = history_text printed w ++ world_report w end
 
 -- The world that a run of a setup ends with, and the headline of what is proved: for every order of turns of harts, acknowledgements and attacker,
 -- the history that is printed is one of the abstract monitor (`kept`), where each enclave is its image run alone on flat memory with the words sent
@@ -41,19 +49,19 @@ pub record IsRunOf (digest_of : List ℕ → List ℕ) (gives : Gives) (setup : 
   pub undisturbed : IsUnattacked w.history.entries → IsFaultless w.history.entries × (end ≢ finished.Collision)
 
 -- the world that a run ended with, and the whole of its output
-abbrev pub IsWritten : (List ℕ → List ℕ) → Gives → SetupParts → Finished → WorldData → Ends → Type 0
-IsWritten digest_of gives setup end w sink = IsRunOf digest_of gives setup end w × Writes sink (run_text w end)
+abbrev pub IsWritten : (List ℕ → List ℕ) → Gives → SetupParts → Printed → Finished → WorldData → Ends → Type 0
+IsWritten digest_of gives setup printed end w sink = IsRunOf digest_of gives setup end w × Writes sink (run_text printed w end)
 
 -- what the status says that a run from its beginning to this world ends with
-abbrev pub PlayedTo : (List ℕ → List ℕ) → Gives → SetupParts → WorldData → Ends → Status → Type 0
-PlayedTo digest_of gives setup w sink status_is.Done = IsWritten digest_of gives setup finished.Done w sink
-PlayedTo digest_of gives setup w sink status_is.Collision = IsWritten digest_of gives setup finished.Collision w sink
-PlayedTo digest_of gives setup w sink status_is.Stuck = IsWritten digest_of gives setup finished.Stuck w sink
-PlayedTo digest_of gives setup w sink status_is.WriteFault =
-    Failed sink × ((end : Finished) × IsRunOf digest_of gives setup end w × WritesPrefix sink (run_text w end))
-PlayedTo digest_of gives setup w sink _ = ⊥
+abbrev pub PlayedTo : (List ℕ → List ℕ) → Gives → SetupParts → Printed → WorldData → Ends → Status → Type 0
+PlayedTo digest_of gives setup printed w sink status_is.Done = IsWritten digest_of gives setup printed finished.Done w sink
+PlayedTo digest_of gives setup printed w sink status_is.Collision = IsWritten digest_of gives setup printed finished.Collision w sink
+PlayedTo digest_of gives setup printed w sink status_is.Stuck = IsWritten digest_of gives setup printed finished.Stuck w sink
+PlayedTo digest_of gives setup printed w sink status_is.WriteFault =
+    Failed sink × ((end : Finished) × IsRunOf digest_of gives setup end w × WritesPrefix sink (run_text printed w end))
+PlayedTo digest_of gives setup printed w sink _ = ⊥
 
 -- and what it says of a run that makes its world, for which memory may not suffice
-abbrev pub RunEnds : (List ℕ → List ℕ) → Gives → SetupParts → Ends → Status → Type 0
-RunEnds digest_of gives setup sink status_is.NoMemory = WritesNothing sink
-RunEnds digest_of gives setup sink status = (w : WorldData) × PlayedTo digest_of gives setup w sink status
+abbrev pub RunEnds : (List ℕ → List ℕ) → Gives → SetupParts → Printed → Ends → Status → Type 0
+RunEnds digest_of gives setup printed sink status_is.NoMemory = WritesNothing sink
+RunEnds digest_of gives setup printed sink status = (w : WorldData) × PlayedTo digest_of gives setup printed w sink status

@@ -1,29 +1,36 @@
 -- What the top call read and wrote, for each status that it ends with. The counts of faults and the bytes are those of
 -- the source and the sink that it was handed, where these tell them.
-use Rattle.std.specs.Prelude.{◌≡◌, ◌⊎◌, ⊤, ℕ, List, [], ◌∷◌, ◌++◌, codes, decimal, Option, Some, None, Ok, Err, if◌then◌else◌}
+use Rattle.std.specs.Prelude.{◌≡◌, ◌≤◌, ◌⊎◌, ⊤, ℕ, List, [], ◌∷◌, ◌++◌, codes, decimal, Option, Some, None, option_map, Ok, Err, if◌then◌else◌}
+use Rattle.std.specs.Option.{IsSomeAnd}
 use Rattle.std.specs.Str.{bytes_eq}
+use Rattle.pl_io.specs.Numbers.{dec_value}
 use Rattle.pl_history.specs.declared.setup.SetupParts.{SetupParts}
 use Rattle.pl_history.specs.declared.setup.ChoiceName.{ChoiceName}
 use Rattle.pl_history.specs.declared.setup.ChoiceName.TheVariants as choice_is
+use Rattle.pl_history.specs.Unattacked.{IsFaultless}
 use Rattle.sha2.specs.Sha256.{sha256}
 use Rattle.toml.specs.declared.de.error.Error.{Error}
 use Rattle.world_machine.specs.declared.turned.Finished.{Finished}
 use Rattle.world_machine.specs.declared.turned.Finished.TheVariants as finished
 use Rattle.world_machine.specs.Unbuilt.{first_unbuilt_of}
 use Rattle.world_machine.specs.Worlds.{WorldData}
+use Rattle.world_setup.specs.Arguments.{within}
 use Rattle.world_setup.specs.Checked.{Checked, ◌>>=◌, none_at}
+use Rattle.world_setup.specs.Generating.{generated}
 use Rattle.world_setup.specs.SetupOf.{setup_of}
 use Rattle.penglai_main.specs.declared.top.Command.{Command}
-use Rattle.penglai_main.specs.declared.top.Command.TheVariants.{Solo, Measure}
+use Rattle.penglai_main.specs.declared.top.Command.TheVariants.{Solo, Measure, Generate}
+use Rattle.penglai_main.specs.declared.solo.Printed.TheVariants as printed_is
 use Rattle.penglai_main.specs.declared.status.Status.{Status}
 use Rattle.penglai_main.specs.declared.status.Status.TheVariants as status_is
 use Rattle.penglai_main.specs.Ends.{Ends, Reads, ReadsToEnd, Writes, WritesPrefix, WritesNothing, Failed}
 use Rattle.penglai_main.specs.Measure.{measurements_text}
 use Rattle.penglai_main.specs.Play.{Gives, IsRunOf, run_text}
 
--- the words are exactly one word, a command
+-- the words are exactly `solo`, or `measure`, or `generate` and a decimal number up to 65,535
 abbrev pub command_of : List (List ℕ) → Option Command
 command_of (word ∷ []) = if bytes_eq word (codes "solo") then Some Solo else if bytes_eq word (codes "measure") then Some Measure else None
+command_of (word ∷ number ∷ []) = if bytes_eq word (codes "generate") then option_map Generate (within 0 65535 (dec_value number)) else None
 command_of _ = None
 
 -- rule 99, the last, fails at what isn't built
@@ -36,10 +43,23 @@ runnable setup = do
 abbrev pub runnable_of : List ℕ → Checked SetupParts
 runnable_of bytes = setup_of bytes >>= runnable
 
--- the setup that a command takes of a text; what is only measured need not be built
-abbrev pub taken_of : Command → List ℕ → Checked SetupParts
-taken_of Solo = runnable_of
-taken_of Measure = setup_of
+-- the numbers of generated loads are those up to 65,535
+abbrev pub NumberFits : Command → Type 0
+NumberFits Solo = ⊤
+NumberFits Measure = ⊤
+NumberFits (Generate n) = n ≤ 65535
+
+-- how a command takes the setup from a text, where it reads one; what is only measured need not be built
+abbrev pub taken_of : Command → Option (List ℕ → Checked SetupParts)
+taken_of Solo = Some runnable_of
+taken_of Measure = Some setup_of
+taken_of (Generate n) = None
+
+-- the source, before and after a command that reads no setup, is the same
+abbrev pub Untouched : {A : Type 0} → Command → A → A → Type 0
+Untouched Solo old new = ⊤
+Untouched Measure old new = ⊤
+Untouched (Generate n) old new = new ≡ old
 
 abbrev pub bad_setup_text : ℕ → ℕ → List ℕ
 bad_setup_text rule item = codes "bad setup " ++ (decimal rule ++ (codes " " ++ (decimal item ++ 10 ∷ [])))
@@ -60,7 +80,7 @@ pub record IsRun (gives : ChoiceName → Gives) (end : Finished) (source : Ends)
   pub reads : Reads runnable_of source (Ok setup)
   pub world : WorldData
   pub run : IsRunOf sha256 (gives setup.choice) setup end world
-  pub text_is : text ≡ run_text world end
+  pub text_is : text ≡ run_text printed_is.History world end
 
 -- measured images: the source was read to its end and is a setup; the text is one line for each of its images
 pub record IsMeasured (source : Ends) (text : List ℕ) : Type 0 where
@@ -69,15 +89,24 @@ pub record IsMeasured (source : Ends) (text : List ℕ) : Type 0 where
   pub reads : Reads setup_of source (Ok setup)
   pub text_is : text ≡ measurements_text setup.images
 
--- what a command writes of a setup, where all is written
+-- a generated load: its setup was run until each line was answered, none by a fault; the text is the summary and report of its world
+pub record IsLoad (gives : Gives) (n : ℕ) (text : List ℕ) : Type 0 where
+  pub world : WorldData
+  pub run : IsRunOf sha256 gives (generated n) finished.Done world
+  pub faultless : IsFaultless world.history.entries
+  pub text_is : text ≡ run_text printed_is.Summary world finished.Done
+
+-- what a command writes, where all is written; measuring runs nothing, and a generated load is neither stuck nor broken off by a collision
 abbrev pub IsOutput : (ChoiceName → Gives) → Command → Finished → Ends → List ℕ → Type 0
 IsOutput gives Solo end source text = IsRun gives end source text
 IsOutput gives Measure finished.Done source text = IsMeasured source text
 IsOutput gives Measure end source text = ⊥
+IsOutput gives (Generate n) finished.Done source text = IsLoad (gives choice_is.Oldest) n text
+IsOutput gives (Generate n) end source text = ⊥
 
 -- a refused setup, with the first rule that fails and its item
 pub record IsRefusal (command : Command) (source : Ends) (rule item : ℕ) (text : List ℕ) : Type 0 where
-  pub reads : Reads (taken_of command) source (Err (rule, item))
+  pub reads : IsSomeAnd (taken_of command) (λ taken. Reads taken source (Err (rule, item)))
   pub text_is : text ≡ bad_setup_text rule item
 
 -- the parser's cause comes with rule 2 alone, of a text that isn't TOML

@@ -1,4 +1,4 @@
-//! The top call: a setup is read, and its scripts are run or its images measured.
+//! The top call: a setup is read or generated, and its scripts are run or its images measured.
 #![tactic(auto)]
 
 mod measure;

@@ -5,7 +5,7 @@ use world_setup::RuleText;
 
 // Rule 99, which is tried last.
 const BUILT: RuleText = RuleText {
-    sentence: "not built yet are the lines `destroy`, `shadow`, `fork`, `grant` and `drop`",
+    sentence: "not built yet are the lines `shadow`, `fork`, `grant` and `drop`",
     counted: "line (over hart 0, hart 1 and so on, then the attacker)",
 };
 

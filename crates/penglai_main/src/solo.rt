@@ -4,7 +4,8 @@ ghost use Rattle.std.specs.Fn.{FnReturnsAt};
 ghost use Rattle.mem_slots.specs.Choices.{NamesPosition};
 ghost use Rattle.pl_io.specs.Puts.{Puts};
 ghost use Rattle.penglai_main.specs.Ends.{Later, ends};
-ghost use Rattle.penglai_main.specs.Play.{PlayedTo, RunEnds, run_text};
+ghost use Rattle.penglai_main.specs.Play.{PlayedTo, RunEnds, history_text, run_text};
+ghost use Rattle.penglai_main.specs.declared.solo.Printed.TheVariants as printed_is;
 ghost use Rattle.penglai_main.specs.Top.{status_of};
 ghost use Rattle.world_machine.specs.Reached.{opening_world};
 ghost use Rattle.world_machine.specs.Runs.{Plays, over_of};
@@ -15,11 +16,20 @@ use crate::status::Status;
 use mem_slots::{Choice, SlotUse};
 use pl_base::{Actor, Failed};
 use pl_digest::Digester;
-use pl_history::{Setup, put_history};
+use pl_history::{Setup, put_history, put_summary};
 use pl_io::Sink;
 use std::alloc::Global;
 use world_core::World;
 use world_machine::Finished;
+
+// What is printed of a run's history, before the report.
+#[derive(Clone, Copy)]
+pub(crate) enum Printed {
+    // Each entry, in a line.
+    History,
+    // How many lines were answered and words taken, and the exclusive or of these words.
+    Summary,
+}
 
 // The actor at a place of an order.
 fn actor_at(order: &[Actor], turn: usize) -> Actor
@@ -52,17 +62,31 @@ fn run_out<D: Digester, F: Fn(&[SlotUse]) -> usize>(world: &mut World<D, F>) -> 
     world.finish()
 }
 
-// Writes the history and the report.
+// Writes the history or its summary.
+fn put_entries<D: Digester, F, K: Sink>(
+    world: &World<D, F>,
+    printed: Printed,
+    sink: &mut K,
+) -> Result<(), Failed>
+    ensures { Puts (K.written sink.old) (K.written sink.new) (K.faults sink.old) (K.faults sink.new) (history_text printed world.now.0) result }
+{
+    match printed {
+        Printed::History => put_history(sink, world.setup().parts().harts, world.history()),
+        Printed::Summary => put_summary(sink, world.history()),
+    }
+}
+
+// Writes the history or its summary, and the report.
 fn put_run<D: Digester, F, K: Sink>(
     world: &World<D, F>,
     end: Finished,
+    printed: Printed,
     sink: &mut K,
 ) -> Result<(), Failed>
     requires { over_of D.digest_of world.now.0 ≡ Some end }
-    ensures { Puts (K.written sink.old) (K.written sink.new) (K.faults sink.old) (K.faults sink.new) (run_text world.now.0 end) result }
+    ensures { Puts (K.written sink.old) (K.written sink.new) (K.faults sink.old) (K.faults sink.new) (run_text printed world.now.0 end) result }
 {
-    let harts = world.setup().parts().harts;
-    if put_history(sink, harts, world.history()).is_err() {
+    if put_entries(world, printed, sink).is_err() {
         return Err(Failed);
     }
     world.put_report(sink)
@@ -79,6 +103,46 @@ fn status_of(end: Finished) -> Status
     }
 }
 
+// Makes the turns of the setup's order and then whole rounds until the run is over, and writes the history, or its summary, and the report.
+fn play_and_print<D: Digester, K: Sink, F: Fn(&[SlotUse]) -> usize>(
+    world: &mut World<D, F>,
+    printed: Printed,
+    sink: &mut K,
+) -> Status
+    requires opening { world.old.0 ≡ opening_world D.digest_of world.old.0.setup }
+    requires choice { NamesPosition F.Fn world.old.1 }
+    ensures played { PlayedTo D.digest_of (FnReturnsAt F.Fn world.old.1) world.old.0.setup printed world.new.0 (ends K.written K.faults sink.old sink.new) result }
+    ensures choice { world.new.1 ≡ world.old.1 }
+    ensures later { Later (ends K.written K.faults sink.old sink.new) }
+{
+    world.stands();
+    let end = run_out(world);
+    match put_run(world, end, printed, sink) {
+        Ok(()) => status_of(end),
+        Err(Failed) => Status::WriteFault,
+    }
+}
+
+// A run of a setup, each of whose lines is built, and what is printed of it. Where no world can be made, nothing is written.
+pub(crate) fn run_and_print<D: Digester, K: Sink, F: Fn(&[SlotUse]) -> usize + Drop>(
+    alloc: Global,
+    digester: D,
+    setup: Setup,
+    printed: Printed,
+    sink: &mut K,
+    choice: Choice<F>,
+) -> Status
+    requires built { first_unbuilt_of setup ≡ None }
+    requires choice { NamesPosition F.Fn choice }
+    ensures ends { RunEnds D.digest_of (FnReturnsAt F.Fn choice) setup printed (ends K.written K.faults sink.old sink.new) result }
+    ensures later { Later (ends K.written K.faults sink.old sink.new) }
+{
+    let Ok(mut world) = World::new(alloc, digester, setup, choice) else {
+        return Status::NoMemory;
+    };
+    play_and_print(&mut world, printed, sink)
+}
+
 /// Makes the turns of the setup's order and then whole rounds until the run is over, and writes the history and the report. The world is one
 /// that `World::new` gives, and the choice names a position in the list of slots. It takes no memory, and answers Done, Collision, Stuck or
 /// WriteFault.
@@ -88,16 +152,11 @@ pub fn play<D: Digester, K: Sink, F: Fn(&[SlotUse]) -> usize>(
 ) -> Status
     requires opening { world.old.0 ≡ opening_world D.digest_of world.old.0.setup }
     requires choice { NamesPosition F.Fn world.old.1 }
-    ensures played { PlayedTo D.digest_of (FnReturnsAt F.Fn world.old.1) world.old.0.setup world.new.0 (ends K.written K.faults sink.old sink.new) result }
+    ensures played { PlayedTo D.digest_of (FnReturnsAt F.Fn world.old.1) world.old.0.setup printed_is.History world.new.0 (ends K.written K.faults sink.old sink.new) result }
     ensures choice { world.new.1 ≡ world.old.1 }
     ensures later { Later (ends K.written K.faults sink.old sink.new) }
 {
-    world.stands();
-    let end = run_out(world);
-    match put_run(world, end, sink) {
-        Ok(()) => status_of(end),
-        Err(Failed) => Status::WriteFault,
-    }
+    play_and_print(world, Printed::History, sink)
 }
 
 /// A run of a setup, each of whose lines is built, with this digest function and this rule that names the slot to evict: its history and
@@ -111,11 +170,8 @@ pub fn solo_with<D: Digester, K: Sink, F: Fn(&[SlotUse]) -> usize + Drop>(
 ) -> Status
     requires built { first_unbuilt_of setup ≡ None }
     requires choice { NamesPosition F.Fn choice }
-    ensures ends { RunEnds D.digest_of (FnReturnsAt F.Fn choice) setup (ends K.written K.faults sink.old sink.new) result }
+    ensures ends { RunEnds D.digest_of (FnReturnsAt F.Fn choice) setup printed_is.History (ends K.written K.faults sink.old sink.new) result }
     ensures later { Later (ends K.written K.faults sink.old sink.new) }
 {
-    let Ok(mut world) = World::new(alloc, digester, setup, choice) else {
-        return Status::NoMemory;
-    };
-    play(&mut world, sink)
+    run_and_print(alloc, digester, setup, Printed::History, sink, choice)
 }

@@ -1,21 +1,31 @@
 // The top call.
-ghost use Rattle.std.specs.Prelude.{◌≡◌, ◌↔◌, map, string_bytes, None, IfSome};
-ghost use Rattle.penglai_main.specs.declared.top.Command.TheVariants.{Solo, Measure};
+ghost use Rattle.std.specs.Prelude.{◌≡◌, ◌≤◌, ◌↔◌, map, option_map, string_bytes, None, IfSome};
+ghost use Rattle.penglai_main.specs.declared.solo.Printed.TheVariants as printed_is;
+ghost use Rattle.penglai_main.specs.declared.top.Command.TheVariants.{Solo, Measure, Generate};
 ghost use Rattle.penglai_main.specs.Ends.{Later, WritesNothing, ends};
 ghost use Rattle.std.specs.Fn.{FnReturnsAt};
 ghost use Rattle.mem_slots.specs.Choices.{NamesPosition};
-ghost use Rattle.penglai_main.specs.Top.{Explains, choice_gives, command_of, no_choice};
+ghost use Rattle.penglai_main.specs.Play.{RunEnds};
+ghost use Rattle.penglai_main.specs.Top.{Explains, NumberFits, Untouched, choice_gives, command_of, no_choice};
+ghost use Rattle.pl_io.specs.Numbers.{dec_value};
+ghost use Rattle.sha2.specs.Sha256.{sha256};
+ghost use Rattle.world_setup.specs.Arguments.{within};
+ghost use Rattle.world_setup.specs.Generating.{generated};
 
 use crate::measure::put_measurements;
-use crate::solo::solo_with;
+use crate::solo::{Printed, run_and_print, solo_with};
 use crate::status::Status;
 use crate::unread::{decline, runnable_from, setup_from};
 use mem_slots::{Choice, SlotUse};
 use pl_base::Failed;
 use pl_digest::Sha;
 use pl_history::ChoiceName;
-use pl_io::{Sink, Source};
+use pl_io::{Sink, Source, read_dec};
 use std::alloc::Global;
+use world_setup::{generate, within};
+
+// The greatest number of a generated load.
+const MOST_NUMBER: u32 = 65535;
 
 // What the words ask for.
 #[derive(Clone, Copy)]
@@ -24,14 +34,27 @@ enum Command {
     Solo,
     // Measures the setup's images.
     Measure,
+    // Runs the generated load with this number.
+    Generate(u32),
+}
+
+// The generated load whose number is this text.
+fn load_of(number: &str) -> Option<Command>
+    ensures command { result ≡ option_map Generate (within 0 65535 (dec_value number.now)) }
+    ensures fits { IfSome result NumberFits }
+{
+    let n = within(0, MOST_NUMBER, read_dec(number.as_bytes()))?;
+    Some(Command::Generate(n))
 }
 
 fn command_of(words: &Vec<String>) -> Option<Command>
-    ensures { result ≡ command_of (map string_bytes words.now.items) }
+    ensures command { result ≡ command_of (map string_bytes words.now.items) }
+    ensures fits { IfSome result NumberFits }
 {
     match words.as_slice() {
         [word] if word.as_str() == "solo" => Some(Command::Solo),
         [word] if word.as_str() == "measure" => Some(Command::Measure),
+        [word, number] if word.as_str() == "generate" => load_of(number.as_str()),
         _ => None,
     }
 }
@@ -77,6 +100,24 @@ fn measure<S: Source, K: Sink>(alloc: Global, source: &mut S, sink: &mut K) -> S
     }
 }
 
+// Runs the generated load with this number.
+fn load<K: Sink, F: Fn(&[SlotUse]) -> usize + Drop>(
+    alloc: Global,
+    n: u32,
+    sink: &mut K,
+    oldest: Choice<F>,
+) -> Status
+    requires number { n ≤ 65535 }
+    requires oldest { NamesPosition F.Fn oldest }
+    ensures ends { RunEnds sha256 (FnReturnsAt F.Fn oldest) (generated n) printed_is.Summary (ends K.written K.faults sink.old sink.new) result }
+    ensures later { Later (ends K.written K.faults sink.old sink.new) }
+{
+    let Ok(setup) = generate(alloc, n) else {
+        return Status::NoMemory;
+    };
+    run_and_print(alloc, Sha, setup, Printed::Summary, sink, oldest)
+}
+
 // Does what a command asks.
 fn carry_out<
     S: Source,
@@ -91,21 +132,25 @@ fn carry_out<
     oldest: Choice<F>,
     least: Choice<O>,
 ) -> Status
+    requires number { NumberFits command }
     requires oldest { NamesPosition F.Fn oldest }
     requires least { NamesPosition O.Fn least }
     ensures explains { Explains (choice_gives (FnReturnsAt F.Fn oldest) (FnReturnsAt O.Fn least)) command (ends S.left S.faults source.old source.new) (ends K.written K.faults sink.old sink.new) result }
+    ensures untouched { Untouched command source.old source.new }
     ensures source_later { Later (ends S.left S.faults source.old source.new) }
     ensures sink_later { Later (ends K.written K.faults sink.old sink.new) }
 {
     match command {
         Command::Solo => solo(alloc, source, sink, oldest, least),
         Command::Measure => measure(alloc, source, sink),
+        Command::Generate(n) => load(alloc, n, sink, oldest),
     }
 }
 
-/// Does what the words ask of the setup that the source holds: `solo` runs it, in the order of turns that it gives, and writes its history
-/// and report; `measure` writes the measurement of each image. It reads at most 16 MiB. Where a zone is mounted and all slots are taken,
-/// the rule that the setup names tells which makes room: `oldest` or `least`.
+/// Does what the words ask. Of the setup that the source holds, `solo` runs it, in the order of turns that it gives, and writes its history
+/// and report; `measure` writes the measurement of each image. They read at most 16 MiB. `generate N` reads nothing: it runs the generated
+/// load with this number, and writes the summary of its history and its report. Where a zone is mounted and all slots are taken, the rule
+/// that the setup names tells which makes room: `oldest` or `least`.
 pub fn quick<
     S: Source,
     K: Sink,
@@ -122,13 +167,16 @@ pub fn quick<
     requires oldest { NamesPosition F.Fn oldest }
     requires least { NamesPosition O.Fn least }
 
-    // BadWords comes exactly where the words aren't one word that is a command, and nothing is written then.
+    // BadWords comes exactly where the words are none of `solo`, `measure` and `generate N`, and nothing is written then.
     ensures bad_words { (result ≡ Status.BadWords) ↔ (command_of (map string_bytes words.now.items) ≡ None) }
     ensures unwritten { result ≡ Status.BadWords → WritesNothing (ends K.written K.faults sink.old sink.new) }
 
     // What every other status says.
     ensures explains { IfSome (command_of (map string_bytes words.now.items)) (λ command.
         Explains (choice_gives (FnReturnsAt F.Fn oldest) (FnReturnsAt O.Fn least)) command (ends S.left S.faults source.old source.new) (ends K.written K.faults sink.old sink.new) result) }
+
+    // A command that takes no setup leaves the source as it is.
+    ensures untouched { IfSome (command_of (map string_bytes words.now.items)) (λ command. Untouched command source.old source.new) }
 
     // No count falls.
     ensures source_later { Later (ends S.left S.faults source.old source.new) }

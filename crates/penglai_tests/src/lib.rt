@@ -9,6 +9,8 @@ mod choice_tests;
 #[cfg(test)]
 mod collision_tests;
 #[cfg(test)]
+mod generate_tests;
+#[cfg(test)]
 mod setup_tests;
 #[cfg(test)]
 mod top_tests;

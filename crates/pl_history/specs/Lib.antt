@@ -19,6 +19,7 @@ pub mod Waiting
 pub mod Legal
 pub mod Laws
 pub mod Text
+pub mod Summary
 pub use Rattle.mem_geom.specs.Layout
 pub use Rattle.mem_geom.specs.PathPlaces
 pub use Rattle.mem_geom.specs.Ranges

@@ -9,6 +9,7 @@ mod pages;
 mod printing;
 mod protection;
 mod setup;
+mod summary;
 
 pub use answer::{Answer, Entry};
 pub use history::History;
@@ -21,6 +22,7 @@ pub use line::{AttackLine, Line};
 pub use pages::{all_pages, guarded_pages};
 pub use printing::{put_entry, put_history, put_place};
 pub use setup::{ChoiceName, Setup, SetupParts};
+pub use summary::put_summary;
 
 #[cfg(test)]
 mod tests;

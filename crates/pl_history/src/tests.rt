@@ -2,7 +2,7 @@
 ghost use Rattle.std.specs.Prelude.{◌≡◌};
 ghost use Rattle.pl_history.specs.History.{part_end};
 
-use crate::{Answer, Entry, History, put_entry, put_history};
+use crate::{Answer, Entry, History, put_entry, put_history, put_summary};
 use pl_base::{EncNo, No, Place, State, Why};
 use pl_io::MemSink;
 use std::alloc::Global;
@@ -208,6 +208,47 @@ fn a_history_is_filled_and_printed(rt: HostRuntime) -> Result<(), Fail> {
     assert_eq!(rt;
         sink.bytes(),
         b"h0 0 begun\nx 3 kept 80000000 ab7f\nh0 0 begun\nh1 3 kept 80000000 ab7f\n".as_slice()
+    );
+    Ok(())
+}
+
+// Adds an answer that names no bytes.
+fn add(history: &mut History, answer: Answer) -> Result<(), Fail> {
+    if history.room().0 == 0 || part_end(&answer) > 0 {
+        return Err(Fail::from("no room, or bytes are named"));
+    }
+    history.add(Entry {
+        actor: 0,
+        line: 0,
+        answer,
+    });
+    Ok(())
+}
+
+#[test]
+fn a_summary_counts_lines_and_words(rt: HostRuntime) -> Result<(), Fail> {
+    let alloc = rt.alloc();
+    let mut history = History::new(alloc, 5, 0)?;
+    let mut sink = MemSink::new(alloc, 200, Vec::new(alloc))?;
+    put_summary(&mut sink, &history)?;
+    assert_eq!(rt;
+        sink.bytes(),
+        b"lines 0\nwords 0\nxor 0000000000000000\n".as_slice()
+    );
+    for answer in [
+        Answer::Begun,
+        Answer::Ok,
+        Answer::Word(0xf0f0_0000_0000_1234),
+        Answer::No(No::Empty),
+        Answer::Word(0x0ff0_0000_0000_0204),
+    ] {
+        add(&mut history, answer)?;
+    }
+    let mut sink = MemSink::new(alloc, 200, Vec::new(alloc))?;
+    put_summary(&mut sink, &history)?;
+    assert_eq!(rt;
+        sink.bytes(),
+        b"lines 4\nwords 2\nxor ff00000000001030\n".as_slice()
     );
     Ok(())
 }

@@ -14,12 +14,14 @@ use Rattle.pl_base.specs.declared.actor.Actor.{Actor}
 use Rattle.pl_base.specs.declared.actor.Actor.TheVariants as actor_is
 use Rattle.pl_base.specs.Perms.{are_page_perms}
 use Rattle.pl_base.specs.declared.state.State.{State}
-use Rattle.pl_base.specs.declared.state.State.TheVariants.{On}
+use Rattle.pl_base.specs.declared.state.State.TheVariants.{On, Dying}
 use Rattle.rv_hart.specs.declared.walks.Micro.{Micro}
 use Rattle.rv_hart.specs.declared.walks.Walk.TheVariants.{Start}
 use Rattle.mon_enclave.specs.declared.enclave.PageKind.{PageKind}
 use Rattle.mon_enclave.specs.declared.enclave.PageKind.TheVariants.{Own}
 use Rattle.mon_enclave.specs.Records.{enclave_at, page_number_of}
+use Rattle.mon_fence.specs.declared.fences.Fence.{Fence}
+use Rattle.mon_fence.specs.Fences.{fence_of}
 use Rattle.mon_host.specs.Laws.{new_mapping}
 use Rattle.mon_image.specs.declared.image.Image.{Image}
 use Rattle.mon_image.specs.declared.page.ImagePage.{ImagePage}
@@ -34,13 +36,13 @@ use Rattle.world_attack.specs.Room.{RoomForLine}
 use Rattle.world_attack.proofs.RoomLemmas.{room_for_lines}
 use Rattle.world_attack.specs.Lines.{KeepIsAnswered, KeepsAnsweredFor, is_attack, line_bytes}
 use Rattle.world_attack.proofs.LegalLemmas.{keeps_answered}
-use Rattle.world_core.specs.Conditions.{AreInside, CanAnswer, CanAttack, CanGo, CanMake, CanPut, CanReach}
-use Rattle.world_core.proofs.TranslationConditions.{Fresh, can_acknowledge, can_end_unmap, can_map, can_seek_host, can_seek_next, can_unmap}
+use Rattle.world_core.specs.Conditions.{AreInside, CanAnswer, CanAttack, CanEndDestroy, CanGo, CanMake, CanPut, CanReach}
+use Rattle.world_core.proofs.TranslationConditions.{Fresh, can_acknowledge, can_destroy, can_end_unmap, can_map, can_seek_host, can_seek_next, can_unmap}
 use Rattle.world_core.specs.Turns.{CanActor, CanAttackBy, CanDue, CanTurn, attack_of, due_of}
 use Rattle.world_machine.specs.declared.under.Under.{Under}
-use Rattle.world_machine.specs.declared.under.Under.TheVariants.{Idle, Seeking, Removing, Putting, Running}
+use Rattle.world_machine.specs.declared.under.Under.TheVariants.{Idle, Seeking, Removing, Destroying, Putting, Running}
 use Rattle.world_machine.specs.EnclavesAgree.{EnclaveStands}
-use Rattle.world_machine.specs.FencesStand.{RemovalStands, removals_by}
+use Rattle.world_machine.specs.FencesStand.{GivingStands, IsOfNumber, RemovalStands, removals_by}
 use Rattle.world_machine.specs.HostAccessing.{loads, stores}
 use Rattle.world_machine.specs.LinesUnderWay.{IsPutting, IsRunning, LineUnderWay}
 use Rattle.world_machine.specs.Making.{image_of}
@@ -49,6 +51,7 @@ use Rattle.world_machine.specs.RecordsAgree.{LiveAgrees}
 use Rattle.world_machine.specs.Standing.{Kept, state_of, written_page}
 use Rattle.world_machine.specs.TranslationsAgree.{WalkingStands, walking, walking_of}
 use Rattle.world_machine.specs.Worlds.{WorldData, answered_at, attacker_line, hart_line, under_at}
+use Rattle.world_machine.proofs.HeldPages.{held_inside}
 use Rattle.world_machine.proofs.SetupFacts.{CreateNames, create_names, each_holds, image_few, guarded_few, line_forms, line_names}
 
 -- ---- scripts
@@ -211,6 +214,19 @@ module _ (d : List ℕ → List ℕ) (w : WorldData) (k : Kept d w) where
       seeks = can_seek_next d w k hart below e.0 (on_live e.0 running.state) budget count micro walks;
     }
 
+    -- the pages that a dying number holds are pages that there are
+    can_end_destroy : (e : EncNo) → hart_line w hart ≡ Some (line_is.Destroy e) → (enclave_at w.enclaves e.0).state ≡ Dying
+        → (f : Fence) × (fence_of w.fences hart ≡ Some f) × IsOfNumber f e.0 → CanEndDestroy w hart e.0
+    can_end_destroy e here dying giving = record {
+      harts = can_go (line_is.Destroy e) here;
+      number = number_there (line_is.Destroy e) e.0 here (λ is. ltb-true e.0 w.setup.enclaves is);
+      fences = omega (arith, k.stands.translations.fences_stand.size, below);
+      fence = giving.0;
+      fence_is = giving.1;
+      inside = held_inside d w k e.0 (ap is_free dying);
+      owned = λ i d' h. omega (arith, held_inside d w k e.0 (ap is_free dying) i d' h, k.sizes.pages, k.sizes.zones);
+    }
+
     actors_there : (actor count : ℕ) → hart_line w hart ≡ Some (line_is.After actor count) → actor < length w.answered
     actors_there actor count here =
         let there = waits_there (counts_of w.setup.lines w.setup.attacker) 0 w.setup.lines hart (answered_at w.answered hart) actor count k.sizes.rules.waits here in
@@ -219,76 +235,96 @@ module _ (d : List ℕ → List ℕ) (w : WorldData) (k : Kept d w) where
     -- what the hart's line needs, so far
     module _ (bound : (e : ℕ) → ((state_of w).number e).retired ≤ 2 ^ 48) where
       can_due : (line : Option Line) (under : Under) → hart_line w hart ≡ line → LineUnderWay w.setup (written_page w) (enclave_at w.enclaves) (state_of w).number hart line under
-          → WalkingStands w.ctl (Fresh d w k hart) (walking w.setup.tables (enclave_at w.enclaves) line under) → RemovalStands line under (removals_by (state_of w).removals hart) → CanDue w hart (due_of line) under
-      can_due None Idle here so_far walks removal = tt
-      can_due None (Seeking walk) here so_far walks removal = tt
-      can_due None (Removing page) here so_far walks removal = tt
-      can_due None (Putting done) here so_far walks removal = tt
-      can_due None (Running micro count) here so_far walks removal = tt
-      can_due (Some (line_is.Load va)) Idle here so_far walks removal = record { harts = can_go (line_is.Load va) here; seeks = can_seek_host d w k hart below va loads Start tt }
-      can_due (Some (line_is.Load va)) (Seeking walk) here so_far walks removal = (record { harts = can_go (line_is.Load va) here; seeks = can_seek_host d w k hart below va loads walk walks }, so_far)
-      can_due (Some (line_is.Load va)) (Removing page) here so_far walks removal = tt
-      can_due (Some (line_is.Load va)) (Putting done) here so_far walks removal = tt
-      can_due (Some (line_is.Load va)) (Running micro count) here so_far walks removal = tt
-      can_due (Some (line_is.Store va word)) Idle here so_far walks removal = record { harts = can_go (line_is.Store va word) here; seeks = can_seek_host d w k hart below va (stores word) Start tt }
-      can_due (Some (line_is.Store va word)) (Seeking walk) here so_far walks removal = (record { harts = can_go (line_is.Store va word) here; seeks = can_seek_host d w k hart below va (stores word) walk walks }, so_far)
-      can_due (Some (line_is.Store va word)) (Removing page) here so_far walks removal = tt
-      can_due (Some (line_is.Store va word)) (Putting done) here so_far walks removal = tt
-      can_due (Some (line_is.Store va word)) (Running micro count) here so_far walks removal = tt
-      can_due (Some (line_is.Map va page perms)) Idle here so_far walks removal = can_map d w k hart below (can_go (line_is.Map va page perms) here) page perms (line_forms w.setup hart (answered_at w.answered hart) (line_is.Map va page perms) k.sizes.rules here)
-      can_due (Some (line_is.Map va page perms)) (Seeking walk) here so_far walks removal = tt
-      can_due (Some (line_is.Map va page perms)) (Removing now) here so_far walks removal = tt
-      can_due (Some (line_is.Map va page perms)) (Putting done) here so_far walks removal = tt
-      can_due (Some (line_is.Map va page perms)) (Running micro count) here so_far walks removal = tt
-      can_due (Some (line_is.Unmap va)) Idle here so_far walks removal = can_unmap d w k hart below (can_go (line_is.Unmap va) here) removal
-      can_due (Some (line_is.Unmap va)) (Seeking walk) here so_far walks removal = tt
-      can_due (Some (line_is.Unmap va)) (Removing page) here so_far walks removal = can_end_unmap d w k hart below (can_go (line_is.Unmap va) here) (new_mapping va page removal.0) removal.1
-      can_due (Some (line_is.Unmap va)) (Putting done) here so_far walks removal = tt
-      can_due (Some (line_is.Unmap va)) (Running micro count) here so_far walks removal = tt
-      can_due (Some (line_is.Create e image pages)) Idle here so_far walks removal = can_make e image pages here
-      can_due (Some (line_is.Create e image pages)) (Seeking walk) here so_far walks removal = tt
-      can_due (Some (line_is.Create e image pages)) (Removing page) here so_far walks removal = tt
-      can_due (Some (line_is.Create e image pages)) (Putting done) here so_far walks removal = can_put e image pages done here so_far
-      can_due (Some (line_is.Create e image pages)) (Running micro count) here so_far walks removal = tt
-      can_due (Some (line_is.Run e budget)) Idle here so_far walks removal = (can_go (line_is.Run e budget) here, number_there (line_is.Run e budget) e.0 here (λ is. ltb-true e.0 w.setup.enclaves is))
-      can_due (Some (line_is.Run e budget)) (Seeking walk) here so_far walks removal = tt
-      can_due (Some (line_is.Run e budget)) (Removing page) here so_far walks removal = tt
-      can_due (Some (line_is.Run e budget)) (Putting done) here so_far walks removal = tt
-      can_due (Some (line_is.Run e budget)) (Running micro count) here so_far walks removal =
+          → WalkingStands w.ctl (Fresh d w k hart) (walking w.setup.tables (enclave_at w.enclaves) line under) → RemovalStands line under (removals_by (state_of w).removals hart) → GivingStands line under (fence_of w.fences hart)
+          → CanDue w hart (due_of line) under
+      can_due None Idle here so_far walks removal giving = tt
+      can_due None (Seeking walk) here so_far walks removal giving = tt
+      can_due None (Removing page) here so_far walks removal giving = tt
+      can_due None Destroying here so_far walks removal giving = tt
+      can_due None (Putting done) here so_far walks removal giving = tt
+      can_due None (Running micro count) here so_far walks removal giving = tt
+      can_due (Some (line_is.Load va)) Idle here so_far walks removal giving = record { harts = can_go (line_is.Load va) here; seeks = can_seek_host d w k hart below va loads Start tt }
+      can_due (Some (line_is.Load va)) (Seeking walk) here so_far walks removal giving = (record { harts = can_go (line_is.Load va) here; seeks = can_seek_host d w k hart below va loads walk walks }, so_far)
+      can_due (Some (line_is.Load va)) (Removing page) here so_far walks removal giving = tt
+      can_due (Some (line_is.Load va)) Destroying here so_far walks removal giving = tt
+      can_due (Some (line_is.Load va)) (Putting done) here so_far walks removal giving = tt
+      can_due (Some (line_is.Load va)) (Running micro count) here so_far walks removal giving = tt
+      can_due (Some (line_is.Store va word)) Idle here so_far walks removal giving = record { harts = can_go (line_is.Store va word) here; seeks = can_seek_host d w k hart below va (stores word) Start tt }
+      can_due (Some (line_is.Store va word)) (Seeking walk) here so_far walks removal giving = (record { harts = can_go (line_is.Store va word) here; seeks = can_seek_host d w k hart below va (stores word) walk walks }, so_far)
+      can_due (Some (line_is.Store va word)) (Removing page) here so_far walks removal giving = tt
+      can_due (Some (line_is.Store va word)) Destroying here so_far walks removal giving = tt
+      can_due (Some (line_is.Store va word)) (Putting done) here so_far walks removal giving = tt
+      can_due (Some (line_is.Store va word)) (Running micro count) here so_far walks removal giving = tt
+      can_due (Some (line_is.Map va page perms)) Idle here so_far walks removal giving = can_map d w k hart below (can_go (line_is.Map va page perms) here) page perms (line_forms w.setup hart (answered_at w.answered hart) (line_is.Map va page perms) k.sizes.rules here)
+      can_due (Some (line_is.Map va page perms)) (Seeking walk) here so_far walks removal giving = tt
+      can_due (Some (line_is.Map va page perms)) (Removing now) here so_far walks removal giving = tt
+      can_due (Some (line_is.Map va page perms)) Destroying here so_far walks removal giving = tt
+      can_due (Some (line_is.Map va page perms)) (Putting done) here so_far walks removal giving = tt
+      can_due (Some (line_is.Map va page perms)) (Running micro count) here so_far walks removal giving = tt
+      can_due (Some (line_is.Unmap va)) Idle here so_far walks removal giving = can_unmap d w k hart below (can_go (line_is.Unmap va) here) removal giving
+      can_due (Some (line_is.Unmap va)) (Seeking walk) here so_far walks removal giving = tt
+      can_due (Some (line_is.Unmap va)) (Removing page) here so_far walks removal giving = can_end_unmap d w k hart below (can_go (line_is.Unmap va) here) (new_mapping va page removal.0) removal.1
+      can_due (Some (line_is.Unmap va)) Destroying here so_far walks removal giving = tt
+      can_due (Some (line_is.Unmap va)) (Putting done) here so_far walks removal giving = tt
+      can_due (Some (line_is.Unmap va)) (Running micro count) here so_far walks removal giving = tt
+      can_due (Some (line_is.Create e image pages)) Idle here so_far walks removal giving = can_make e image pages here
+      can_due (Some (line_is.Create e image pages)) (Seeking walk) here so_far walks removal giving = tt
+      can_due (Some (line_is.Create e image pages)) (Removing page) here so_far walks removal giving = tt
+      can_due (Some (line_is.Create e image pages)) Destroying here so_far walks removal giving = tt
+      can_due (Some (line_is.Create e image pages)) (Putting done) here so_far walks removal giving = can_put e image pages done here so_far
+      can_due (Some (line_is.Create e image pages)) (Running micro count) here so_far walks removal giving = tt
+      can_due (Some (line_is.Run e budget)) Idle here so_far walks removal giving = (can_go (line_is.Run e budget) here, number_there (line_is.Run e budget) e.0 here (λ is. ltb-true e.0 w.setup.enclaves is))
+      can_due (Some (line_is.Run e budget)) (Seeking walk) here so_far walks removal giving = tt
+      can_due (Some (line_is.Run e budget)) (Removing page) here so_far walks removal giving = tt
+      can_due (Some (line_is.Run e budget)) Destroying here so_far walks removal giving = tt
+      can_due (Some (line_is.Run e budget)) (Putting done) here so_far walks removal giving = tt
+      can_due (Some (line_is.Run e budget)) (Running micro count) here so_far walks removal giving =
           can_reach (line_is.Run e budget) e budget count micro here (λ is. ltb-true e.0 w.setup.enclaves is) (bound e.0) so_far walks
-      can_due (Some (line_is.Resume e budget)) Idle here so_far walks removal = (can_go (line_is.Resume e budget) here, number_there (line_is.Resume e budget) e.0 here (λ is. ltb-true e.0 w.setup.enclaves is))
-      can_due (Some (line_is.Resume e budget)) (Seeking walk) here so_far walks removal = tt
-      can_due (Some (line_is.Resume e budget)) (Removing page) here so_far walks removal = tt
-      can_due (Some (line_is.Resume e budget)) (Putting done) here so_far walks removal = tt
-      can_due (Some (line_is.Resume e budget)) (Running micro count) here so_far walks removal =
+      can_due (Some (line_is.Resume e budget)) Idle here so_far walks removal giving = (can_go (line_is.Resume e budget) here, number_there (line_is.Resume e budget) e.0 here (λ is. ltb-true e.0 w.setup.enclaves is))
+      can_due (Some (line_is.Resume e budget)) (Seeking walk) here so_far walks removal giving = tt
+      can_due (Some (line_is.Resume e budget)) (Removing page) here so_far walks removal giving = tt
+      can_due (Some (line_is.Resume e budget)) Destroying here so_far walks removal giving = tt
+      can_due (Some (line_is.Resume e budget)) (Putting done) here so_far walks removal giving = tt
+      can_due (Some (line_is.Resume e budget)) (Running micro count) here so_far walks removal giving =
           can_reach (line_is.Resume e budget) e budget count micro here (λ is. ltb-true e.0 w.setup.enclaves is) (bound e.0) so_far walks
-      can_due (Some (line_is.Send e word)) Idle here so_far walks removal = (can_go (line_is.Send e word) here, number_there (line_is.Send e word) e.0 here (λ is. ltb-true e.0 w.setup.enclaves is))
-      can_due (Some (line_is.Send e word)) (Seeking walk) here so_far walks removal = tt
-      can_due (Some (line_is.Send e word)) (Removing page) here so_far walks removal = tt
-      can_due (Some (line_is.Send e word)) (Putting done) here so_far walks removal = tt
-      can_due (Some (line_is.Send e word)) (Running micro count) here so_far walks removal = tt
-      can_due (Some (line_is.Take e)) Idle here so_far walks removal = (can_go (line_is.Take e) here, number_there (line_is.Take e) e.0 here (λ is. ltb-true e.0 w.setup.enclaves is))
-      can_due (Some (line_is.Take e)) (Seeking walk) here so_far walks removal = tt
-      can_due (Some (line_is.Take e)) (Removing page) here so_far walks removal = tt
-      can_due (Some (line_is.Take e)) (Putting done) here so_far walks removal = tt
-      can_due (Some (line_is.Take e)) (Running micro count) here so_far walks removal = tt
-      can_due (Some (line_is.After actor count)) Idle here so_far walks removal = (can_go (line_is.After actor count) here, actors_there actor count here)
-      can_due (Some (line_is.After actor lines)) (Seeking walk) here so_far walks removal = tt
-      can_due (Some (line_is.After actor lines)) (Removing page) here so_far walks removal = tt
-      can_due (Some (line_is.After actor lines)) (Putting done) here so_far walks removal = tt
-      can_due (Some (line_is.After actor lines)) (Running micro count) here so_far walks removal = tt
-      can_due (Some line) Idle here so_far walks removal = tt
-      can_due (Some line) (Seeking walk) here so_far walks removal = tt
-      can_due (Some line) (Removing page) here so_far walks removal = tt
-      can_due (Some line) (Putting done) here so_far walks removal = tt
-      can_due (Some line) (Running micro count) here so_far walks removal = tt
+      can_due (Some (line_is.Send e word)) Idle here so_far walks removal giving = (can_go (line_is.Send e word) here, number_there (line_is.Send e word) e.0 here (λ is. ltb-true e.0 w.setup.enclaves is))
+      can_due (Some (line_is.Send e word)) (Seeking walk) here so_far walks removal giving = tt
+      can_due (Some (line_is.Send e word)) (Removing page) here so_far walks removal giving = tt
+      can_due (Some (line_is.Send e word)) Destroying here so_far walks removal giving = tt
+      can_due (Some (line_is.Send e word)) (Putting done) here so_far walks removal giving = tt
+      can_due (Some (line_is.Send e word)) (Running micro count) here so_far walks removal giving = tt
+      can_due (Some (line_is.Take e)) Idle here so_far walks removal giving = (can_go (line_is.Take e) here, number_there (line_is.Take e) e.0 here (λ is. ltb-true e.0 w.setup.enclaves is))
+      can_due (Some (line_is.Take e)) (Seeking walk) here so_far walks removal giving = tt
+      can_due (Some (line_is.Take e)) (Removing page) here so_far walks removal giving = tt
+      can_due (Some (line_is.Take e)) Destroying here so_far walks removal giving = tt
+      can_due (Some (line_is.Take e)) (Putting done) here so_far walks removal giving = tt
+      can_due (Some (line_is.Take e)) (Running micro count) here so_far walks removal giving = tt
+      can_due (Some (line_is.Destroy e)) Idle here so_far walks removal giving =
+          can_destroy d w k hart below e.0 (can_go (line_is.Destroy e) here) (number_there (line_is.Destroy e) e.0 here (λ is. ltb-true e.0 w.setup.enclaves is)) removal giving
+      can_due (Some (line_is.Destroy e)) (Seeking walk) here so_far walks removal giving = tt
+      can_due (Some (line_is.Destroy e)) (Removing page) here so_far walks removal giving = tt
+      can_due (Some (line_is.Destroy e)) Destroying here so_far walks removal giving = can_end_destroy e here so_far giving
+      can_due (Some (line_is.Destroy e)) (Putting done) here so_far walks removal giving = tt
+      can_due (Some (line_is.Destroy e)) (Running micro count) here so_far walks removal giving = tt
+      can_due (Some (line_is.After actor count)) Idle here so_far walks removal giving = (can_go (line_is.After actor count) here, actors_there actor count here)
+      can_due (Some (line_is.After actor lines)) (Seeking walk) here so_far walks removal giving = tt
+      can_due (Some (line_is.After actor lines)) (Removing page) here so_far walks removal giving = tt
+      can_due (Some (line_is.After actor lines)) Destroying here so_far walks removal giving = tt
+      can_due (Some (line_is.After actor lines)) (Putting done) here so_far walks removal giving = tt
+      can_due (Some (line_is.After actor lines)) (Running micro count) here so_far walks removal giving = tt
+      can_due (Some line) Idle here so_far walks removal giving = tt
+      can_due (Some line) (Seeking walk) here so_far walks removal giving = tt
+      can_due (Some line) (Removing page) here so_far walks removal giving = tt
+      can_due (Some line) Destroying here so_far walks removal giving = tt
+      can_due (Some line) (Putting done) here so_far walks removal giving = tt
+      can_due (Some line) (Running micro count) here so_far walks removal giving = tt
 
       pub can_turn : CanTurn w hart
       can_turn = record {
         actors = omega (arith, k.sizes.actors, below);
         harts = omega (arith, k.sizes.harts, below);
         scripts = omega (arith, k.sizes.rules.scripts, below);
-        due = can_due (hart_line w hart) (under_at w.under hart) refl (k.stands.lines hart) (k.stands.translations.fresh.walks hart) (k.stands.translations.removals hart);
+        due = can_due (hart_line w hart) (under_at w.under hart) refl (k.stands.lines hart) (k.stands.translations.fresh.walks hart) (k.stands.translations.removals hart) (k.stands.translations.giving hart);
       }
 
   -- ---- the attacker

@@ -17,10 +17,11 @@ use Rattle.world_core.proofs.TurnLemmas.{attack_turn-line, due_turn-hart}
 use Rattle.world_machine.specs.declared.turned.Turned.TheVariants as turned
 use Rattle.world_machine.specs.declared.turned.Wait.TheVariants as wait
 use Rattle.world_machine.specs.declared.under.Under.{Under}
-use Rattle.world_machine.specs.declared.under.Under.TheVariants.{Idle, Seeking, Removing, Putting, Running}
-use Rattle.world_machine.specs.HostMapping.{lacked_by}
+use Rattle.world_machine.specs.declared.under.Under.TheVariants.{Idle, Seeking, Removing, Destroying, Putting, Running}
+use Rattle.world_machine.specs.GivingBack.{ends_destroy}
+use Rattle.world_machine.specs.HostMapping.{ends_unmap, lacked_by}
 use Rattle.world_machine.specs.Runs.{acknowledgements, hart_turns, is_still, nobody_moves}
-use Rattle.world_machine.specs.Steps.{Turn, actor_turn, moves, rests, turned_by, unmap_turn, waits}
+use Rattle.world_machine.specs.Steps.{Turn, actor_turn, moves, rests, turned_by, waiting_turn, waits}
 use Rattle.world_machine.specs.Worlds.{Event, WorldData, answered_at, attacker_line, hart_line, under_at}
 
 -- an `after` has no event where too few lines are answered
@@ -39,60 +40,76 @@ joined true false c = refl
 joined false b c = refl
 
 module _ (d : List ℕ → List ℕ) (w : WorldData) where
-  -- a removal under way ends, or waits for an acknowledgement
-  removal_moves : (hart page : ℕ) (lacked : Option HartSet) → is_still (turned_by (unmap_turn w hart page lacked)) ≡ false
-  removal_moves hart page None = refl
-  removal_moves hart page (Some harts) = refl
+  -- a line that posted a fence ends, or waits for an acknowledgement
+  waiting_moves : (ended : WorldData) (lacked : Option HartSet) → is_still (turned_by (waiting_turn ended lacked)) ≡ false
+  waiting_moves ended None = refl
+  waiting_moves ended (Some harts) = refl
 
   due_stills : (hart : ℕ) (pages : List ℕ) (due : Due) (under : Under) → is_still (turned_by (due_turn d w hart [] pages due under)) ≡ due_still w due under
   due_stills hart pages (due_is.Load va) Idle = refl
   due_stills hart pages (due_is.Load va) (Seeking walk) = refl
   due_stills hart pages (due_is.Load va) (Removing page) = refl
+  due_stills hart pages (due_is.Load va) Destroying = refl
   due_stills hart pages (due_is.Load va) (Putting done) = refl
   due_stills hart pages (due_is.Load va) (Running micro count) = refl
   due_stills hart pages (due_is.Store va word) Idle = refl
   due_stills hart pages (due_is.Store va word) (Seeking walk) = refl
   due_stills hart pages (due_is.Store va word) (Removing page) = refl
+  due_stills hart pages (due_is.Store va word) Destroying = refl
   due_stills hart pages (due_is.Store va word) (Putting done) = refl
   due_stills hart pages (due_is.Store va word) (Running micro count) = refl
   due_stills hart pages (due_is.Map va page perms) Idle = refl
   due_stills hart pages (due_is.Map va page perms) (Seeking walk) = refl
   due_stills hart pages (due_is.Map va page perms) (Removing now) = refl
+  due_stills hart pages (due_is.Map va page perms) Destroying = refl
   due_stills hart pages (due_is.Map va page perms) (Putting done) = refl
   due_stills hart pages (due_is.Map va page perms) (Running micro count) = refl
   due_stills hart pages (due_is.Unmap va) Idle = refl
   due_stills hart pages (due_is.Unmap va) (Seeking walk) = refl
-  due_stills hart pages (due_is.Unmap va) (Removing page) = removal_moves hart page (lacked_by w hart)
+  due_stills hart pages (due_is.Unmap va) (Removing page) = waiting_moves (ends_unmap w hart page) (lacked_by w hart)
+  due_stills hart pages (due_is.Unmap va) Destroying = refl
   due_stills hart pages (due_is.Unmap va) (Putting done) = refl
   due_stills hart pages (due_is.Unmap va) (Running micro count) = refl
   due_stills hart pages (due_is.Create e image) Idle = refl
   due_stills hart pages (due_is.Create e image) (Seeking walk) = refl
   due_stills hart pages (due_is.Create e image) (Removing page) = refl
+  due_stills hart pages (due_is.Create e image) Destroying = refl
   due_stills hart pages (due_is.Create e image) (Putting done) = refl
   due_stills hart pages (due_is.Create e image) (Running micro count) = refl
   due_stills hart pages (due_is.Run e budget first) Idle = refl
   due_stills hart pages (due_is.Run e budget first) (Seeking walk) = refl
   due_stills hart pages (due_is.Run e budget first) (Removing page) = refl
+  due_stills hart pages (due_is.Run e budget first) Destroying = refl
   due_stills hart pages (due_is.Run e budget first) (Putting done) = refl
   due_stills hart pages (due_is.Run e budget first) (Running micro count) = refl
   due_stills hart pages (due_is.Send e word) Idle = refl
   due_stills hart pages (due_is.Send e word) (Seeking walk) = refl
   due_stills hart pages (due_is.Send e word) (Removing page) = refl
+  due_stills hart pages (due_is.Send e word) Destroying = refl
   due_stills hart pages (due_is.Send e word) (Putting done) = refl
   due_stills hart pages (due_is.Send e word) (Running micro count) = refl
   due_stills hart pages (due_is.Take e) Idle = refl
   due_stills hart pages (due_is.Take e) (Seeking walk) = refl
   due_stills hart pages (due_is.Take e) (Removing page) = refl
+  due_stills hart pages (due_is.Take e) Destroying = refl
   due_stills hart pages (due_is.Take e) (Putting done) = refl
   due_stills hart pages (due_is.Take e) (Running micro count) = refl
+  due_stills hart pages (due_is.Destroy e) Idle = refl
+  due_stills hart pages (due_is.Destroy e) (Seeking walk) = refl
+  due_stills hart pages (due_is.Destroy e) (Removing page) = refl
+  due_stills hart pages (due_is.Destroy e) Destroying = waiting_moves (ends_destroy w hart e) (lacked_by w hart)
+  due_stills hart pages (due_is.Destroy e) (Putting done) = refl
+  due_stills hart pages (due_is.Destroy e) (Running micro count) = refl
   due_stills hart pages (due_is.After actor lines) Idle = waiting_still w actor lines _
   due_stills hart pages (due_is.After actor lines) (Seeking walk) = refl
   due_stills hart pages (due_is.After actor lines) (Removing page) = refl
+  due_stills hart pages (due_is.After actor lines) Destroying = refl
   due_stills hart pages (due_is.After actor lines) (Putting done) = refl
   due_stills hart pages (due_is.After actor lines) (Running micro count) = refl
   due_stills hart pages due_is.Nothing Idle = refl
   due_stills hart pages due_is.Nothing (Seeking walk) = refl
   due_stills hart pages due_is.Nothing (Removing page) = refl
+  due_stills hart pages due_is.Nothing Destroying = refl
   due_stills hart pages due_is.Nothing (Putting done) = refl
   due_stills hart pages due_is.Nothing (Running micro count) = refl
 

@@ -1,23 +1,19 @@
 -- A record that is written twice: the last write counts.
-use Rattle.std.proofs.Common.{◌≡◌, ℕ, ◌+◌, ◌<◌, ◌==◌, List, length, set, ap, ◌∙◌, if◌then◌else◌, true, arith}
+use Rattle.std.proofs.Common.{◌≡◌, ℕ, ◌+◌, ◌<◌, ◌==◌, List, length, ap, ◌∙◌, if◌then◌else◌, true, arith}
 use Rattle.std.proofs.lemmas.Bool.Decides.{nat_tests}
-use Rattle.std.proofs.lemmas.List.{get_or-set_same, set-set}
-use Rattle.std.proofs.lemmas.Option.{unwrap_or-slice_get}
+use Rattle.std.proofs.lemmas.List.{set-set}
 use Rattle.pl_base.specs.declared.state.Why.{Why}
 use Rattle.pl_base.specs.declared.state.Why.TheVariants as why_is
 use Rattle.pl_base.specs.States.{state_left}
 use Rattle.rv_alone.specs.declared.step.Context.{Context}
 use Rattle.mon_enclave.specs.declared.enclave.Enclave.{Enclave}
-use Rattle.mon_enclave.specs.Records.{enclave_at, free_enclave, with_enclave}
+use Rattle.mon_enclave.specs.Records.{enclave_at}
+use Rattle.mon_enclave.proofs.RecordLists.{record_there}
 use Rattle.pl_history.specs.declared.answer.Answer.TheVariants as answer_is
 use Rattle.world_core.specs.Conditions.{with_record}
 use Rattle.world_machine.specs.Answering.{answers}
 use Rattle.world_machine.specs.Running.{RunNow, fetches_next, leaves, retired_with, retires}
 use Rattle.world_machine.specs.Worlds.{WorldData}
-
--- the record that was written stands there
-pub record_there : (all : List Enclave) (e : ℕ) (r : Enclave) → e < length all → enclave_at (with_enclave all e r) e ≡ r
-record_there all e r below = unwrap_or-slice_get (set all e r) e free_enclave ∙ get_or-set_same all e r free_enclave below
 
 module _ (w : WorldData) (run : RunNow) (r : Enclave) where
   pub leaves-again : (now : Enclave) (count : ℕ) (why : Why) → leaves (with_record w run.e r) run now count why ≡ leaves w run now count why

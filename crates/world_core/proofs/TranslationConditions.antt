@@ -29,9 +29,9 @@ use Rattle.mon_tables.specs.Tables.{root_of}
 use Rattle.pl_history.specs.HostMaps.{removed}
 use Rattle.pl_history.specs.Monitor.{maps_of}
 use Rattle.pl_history.proofs.HostMappings.{counts_one, legal_mappings}
-use Rattle.world_core.specs.Conditions.{CanAcknowledge, CanEndUnmap, CanGo, CanMap, CanSeekData, CanSeekNext, CanUnmap}
+use Rattle.world_core.specs.Conditions.{CanAcknowledge, CanDestroy, CanEndUnmap, CanGo, CanMap, CanSeekData, CanSeekNext, CanUnmap}
 use Rattle.world_core.specs.Translating.{AsksInside, CanSeek, IsInside}
-use Rattle.world_machine.specs.FencesStand.{FenceStands, removals_by}
+use Rattle.world_machine.specs.FencesStand.{FenceStands, IsOfHost, removals_by}
 use Rattle.world_machine.specs.HostAccessing.{WordAccess, host_request, kind_of}
 use Rattle.world_machine.specs.LinesUnderWay.{access_of}
 use Rattle.world_machine.specs.Running.{RunNow, run_request}
@@ -144,14 +144,14 @@ module _ (d : List ℕ → List ℕ) (w : WorldData) (k : Kept d w) where
           subst (λ (o : Option Owner). IsTrue (may_be_mapped (unwrap_or o owner_is.Guard))) (sym host.1) (let small : host.0 < 2 ^ 32 - 1 = omega (arith, maps, few, few_tables d w k) in grind (arith, nat_tests));
     }
 
-    pub can_unmap : CanGo w hart → removals_by (state_of w).removals hart ≡ [] → CanUnmap w hart
-    can_unmap go none = record {
+    pub can_unmap : CanGo w hart → removals_by (state_of w).removals hart ≡ [] → IsOfHost (fence_of w.fences hart) → CanUnmap w hart
+    can_unmap go none of_host = record {
       harts = go;
       tlbs = omega (arith, k.stands.translations.harts, below);
       fences = omega (arith, k.stands.translations.fences_stand.size, below);
       guarded = guarded;
       leaves = spaces_have_leaves w.setup.tables w.ctl (state_of w).space guarded (host_leads d w k) k.stands.translations.tables.host;
-      none = no_fence w.setup.harts w.fences (state_of w).removals k.stands.translations.fences_stand hart below none;
+      none = no_fence w.setup.harts w.fences (state_of w).removals k.stands.translations.fences_stand hart below of_host none;
     }
 
     pub can_end_unmap : CanGo w hart → (m : Mapping) → removals_by (state_of w).removals hart ≡ m ∷ [] → CanEndUnmap w hart m.page
@@ -168,6 +168,19 @@ module _ (d : List ℕ → List ℕ) (w : WorldData) (k : Kept d w) where
           mapped = subst (λ (o : Option Owner). IsTrue (is_mapped (unwrap_or o owner_is.Guard))) (sym host)
               (let mapped : 0 < maps_of (state_of w) m.page = omega (arith, less, one) in grind (arith, nat_tests));
         }
+
+    -- ---- giving back
+
+    pub can_destroy : (e : ℕ) → CanGo w hart → e < length w.enclaves → removals_by (state_of w).removals hart ≡ [] → IsOfHost (fence_of w.fences hart) → CanDestroy w hart e
+    can_destroy e go there none of_host = record {
+      harts = go;
+      number = there;
+      tlbs = omega (arith, k.stands.translations.harts, below);
+      fences = omega (arith, k.stands.translations.fences_stand.size, below);
+      none = no_fence w.setup.harts w.fences (state_of w).removals k.stands.translations.fences_stand hart below of_host none;
+    }
+
+    -- ---- acknowledgements
 
     pub can_acknowledge : CanAcknowledge w hart
     can_acknowledge = record {

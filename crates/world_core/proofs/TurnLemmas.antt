@@ -21,9 +21,10 @@ use Rattle.world_machine.specs.declared.turned.Turned.{Turned}
 use Rattle.world_machine.specs.declared.turned.Turned.TheVariants as turned
 use Rattle.world_machine.specs.declared.turned.Wait.TheVariants as wait
 use Rattle.world_machine.specs.declared.under.Under.{Under}
-use Rattle.world_machine.specs.declared.under.Under.TheVariants.{Idle, Seeking, Removing, Putting, Running}
+use Rattle.world_machine.specs.declared.under.Under.TheVariants.{Idle, Seeking, Removing, Destroying, Putting, Running}
 use Rattle.world_machine.specs.Acknowledging.{acknowledged, owed, restarted}
-use Rattle.world_machine.specs.HostMapping.{lacked_by}
+use Rattle.world_machine.specs.GivingBack.{ends_destroy}
+use Rattle.world_machine.specs.HostMapping.{ends_unmap, lacked_by}
 use Rattle.world_machine.specs.Steps as step
 use Rattle.world_machine.specs.Steps.{StepOf, Turn, moves, rests, actor_turn, attacker_turn, counted, due, turn_of, turned_by}
 use Rattle.world_machine.specs.Worlds.{Event, WorldData, answered_at, attacker_line, hart_line, under_at}
@@ -35,44 +36,58 @@ module _ (d : List ℕ → List ℕ) (w : WorldData) (hart : ℕ) (positions : L
   due_turn-line (line_is.Load va) Idle = refl
   due_turn-line (line_is.Load va) (Seeking walk) = refl
   due_turn-line (line_is.Load va) (Removing page) = refl
+  due_turn-line (line_is.Load va) Destroying = refl
   due_turn-line (line_is.Load va) (Putting done) = refl
   due_turn-line (line_is.Load va) (Running micro count) = refl
   due_turn-line (line_is.Store va word) Idle = refl
   due_turn-line (line_is.Store va word) (Seeking walk) = refl
   due_turn-line (line_is.Store va word) (Removing page) = refl
+  due_turn-line (line_is.Store va word) Destroying = refl
   due_turn-line (line_is.Store va word) (Putting done) = refl
   due_turn-line (line_is.Store va word) (Running micro count) = refl
   due_turn-line (line_is.Map va page perms) Idle = refl
   due_turn-line (line_is.Map va page perms) (Seeking walk) = refl
   due_turn-line (line_is.Map va page perms) (Removing now) = refl
+  due_turn-line (line_is.Map va page perms) Destroying = refl
   due_turn-line (line_is.Map va page perms) (Putting done) = refl
   due_turn-line (line_is.Map va page perms) (Running micro count) = refl
   due_turn-line (line_is.Unmap va) Idle = refl
   due_turn-line (line_is.Unmap va) (Seeking walk) = refl
   due_turn-line (line_is.Unmap va) (Removing page) = refl
+  due_turn-line (line_is.Unmap va) Destroying = refl
   due_turn-line (line_is.Unmap va) (Putting done) = refl
   due_turn-line (line_is.Unmap va) (Running micro count) = refl
   due_turn-line (line_is.Create e image pages) Idle = refl
   due_turn-line (line_is.Create e image pages) (Seeking walk) = refl
   due_turn-line (line_is.Create e image pages) (Removing page) = refl
+  due_turn-line (line_is.Create e image pages) Destroying = refl
   due_turn-line (line_is.Create e image pages) (Putting done) = refl
   due_turn-line (line_is.Create e image pages) (Running micro count) = refl
   due_turn-line (line_is.Run e budget) Idle = refl
   due_turn-line (line_is.Run e budget) (Seeking walk) = refl
   due_turn-line (line_is.Run e budget) (Removing page) = refl
+  due_turn-line (line_is.Run e budget) Destroying = refl
   due_turn-line (line_is.Run e budget) (Putting done) = refl
   due_turn-line (line_is.Run e budget) (Running micro count) = refl
   due_turn-line (line_is.Resume e budget) Idle = refl
   due_turn-line (line_is.Resume e budget) (Seeking walk) = refl
   due_turn-line (line_is.Resume e budget) (Removing page) = refl
+  due_turn-line (line_is.Resume e budget) Destroying = refl
   due_turn-line (line_is.Resume e budget) (Putting done) = refl
   due_turn-line (line_is.Resume e budget) (Running micro count) = refl
   due_turn-line (line_is.Send e word) Idle = refl
   due_turn-line (line_is.Take e) Idle = refl
+  due_turn-line (line_is.Destroy e) Idle = refl
+  due_turn-line (line_is.Destroy e) (Seeking walk) = refl
+  due_turn-line (line_is.Destroy e) (Removing page) = refl
+  due_turn-line (line_is.Destroy e) Destroying = refl
+  due_turn-line (line_is.Destroy e) (Putting done) = refl
+  due_turn-line (line_is.Destroy e) (Running micro count) = refl
   due_turn-line (line_is.After actor count) Idle = refl
   due_turn-line line Idle = refl
   due_turn-line line (Seeking walk) = refl
   due_turn-line line (Removing page) = refl
+  due_turn-line line Destroying = refl
   due_turn-line line (Putting done) = refl
   due_turn-line line (Running micro count) = refl
 
@@ -80,6 +95,7 @@ module _ (d : List ℕ → List ℕ) (w : WorldData) (hart : ℕ) (positions : L
   nothing_due Idle = refl
   nothing_due (Seeking walk) = refl
   nothing_due (Removing page) = refl
+  nothing_due Destroying = refl
   nothing_due (Putting done) = refl
   nothing_due (Running micro count) = refl
 
@@ -92,21 +108,25 @@ pub restarted-line : (space : Space) (line : Option Line) (under : Under) → re
 restarted-line space (Some (line_is.Run e budget)) Idle = refl
 restarted-line space (Some (line_is.Run e budget)) (Seeking walk) = refl
 restarted-line space (Some (line_is.Run e budget)) (Removing page) = refl
+restarted-line space (Some (line_is.Run e budget)) Destroying = refl
 restarted-line space (Some (line_is.Run e budget)) (Putting done) = refl
 restarted-line space (Some (line_is.Run e budget)) (Running micro count) = refl
 restarted-line space (Some (line_is.Resume e budget)) Idle = refl
 restarted-line space (Some (line_is.Resume e budget)) (Seeking walk) = refl
 restarted-line space (Some (line_is.Resume e budget)) (Removing page) = refl
+restarted-line space (Some (line_is.Resume e budget)) Destroying = refl
 restarted-line space (Some (line_is.Resume e budget)) (Putting done) = refl
 restarted-line space (Some (line_is.Resume e budget)) (Running micro count) = refl
 restarted-line space (Some line) Idle = refl
 restarted-line space (Some line) (Seeking walk) = refl
 restarted-line space (Some line) (Removing page) = refl
+restarted-line space (Some line) Destroying = refl
 restarted-line space (Some line) (Putting done) = refl
 restarted-line space (Some line) (Running micro count) = refl
 restarted-line space None Idle = refl
 restarted-line space None (Seeking walk) = refl
 restarted-line space None (Removing page) = refl
+restarted-line space None Destroying = refl
 restarted-line space None (Putting done) = refl
 restarted-line space None (Running micro count) = refl
 
@@ -123,6 +143,7 @@ is_said (due_is.Map va page perms) = false
 is_said (due_is.Unmap va) = false
 is_said (due_is.Create e image) = false
 is_said (due_is.Run e budget first) = false
+is_said (due_is.Destroy e) = false
 is_said due = true
 
 pub said_turn : (gives : List SlotUse → ℕ → Type 0) (d : List ℕ → List ℕ) (w new : WorldData) (hart : ℕ) (pages : List ℕ) (due : Due) (under : Under) (answered : Turned) → is_said due ≡ true
@@ -133,6 +154,7 @@ said_turn gives d w new hart pages (due_is.Map va page perms) under answered sai
 said_turn gives d w new hart pages (due_is.Unmap va) under answered said turn = cc
 said_turn gives d w new hart pages (due_is.Create e image) under answered said turn = cc
 said_turn gives d w new hart pages (due_is.Run e budget first) under answered said turn = cc
+said_turn gives d w new hart pages (due_is.Destroy e) under answered said turn = cc
 said_turn gives d w new hart pages due under answered said turn = turn
 
 -- turns that are equal for all positions
@@ -155,9 +177,9 @@ waits-sound w actor count event = by (nat_le count (answered_at w.answered actor
     by true = refl
     by false = refl
 
-unmap-sound : (w : WorldData) (hart page : ℕ) (lacked : Option HartSet) → is_sound (step.unmap_turn w hart page lacked) ≡ true
-unmap-sound w hart page None = refl
-unmap-sound w hart page (Some harts) = refl
+waiting-sound : (ended : WorldData) (lacked : Option HartSet) → is_sound (step.waiting_turn ended lacked) ≡ true
+waiting-sound ended None = refl
+waiting-sound ended (Some harts) = refl
 
 ack-sound : (w : WorldData) (hart : ℕ) (requester : Option ℕ) → is_sound (step.ack_turn w hart requester) ≡ true
 ack-sound w hart None = refl
@@ -167,38 +189,51 @@ module _ (d : List ℕ → List ℕ) (w : WorldData) where
   due-sound : (hart : ℕ) (positions : List ℕ) (line : Line) (under : Under) → is_sound (due d w hart positions line under) ≡ true
   due-sound hart positions (line_is.Unmap va) Idle = refl
   due-sound hart positions (line_is.Unmap va) (Seeking walk) = refl
-  due-sound hart positions (line_is.Unmap va) (Removing page) = unmap-sound w hart page (lacked_by w hart)
+  due-sound hart positions (line_is.Unmap va) (Removing page) = waiting-sound (ends_unmap w hart page) (lacked_by w hart)
+  due-sound hart positions (line_is.Unmap va) Destroying = refl
   due-sound hart positions (line_is.Unmap va) (Putting done) = refl
   due-sound hart positions (line_is.Unmap va) (Running micro count) = refl
   due-sound hart positions (line_is.Load va) Idle = refl
   due-sound hart positions (line_is.Load va) (Seeking walk) = refl
   due-sound hart positions (line_is.Load va) (Removing page) = refl
+  due-sound hart positions (line_is.Load va) Destroying = refl
   due-sound hart positions (line_is.Load va) (Putting done) = refl
   due-sound hart positions (line_is.Load va) (Running micro count) = refl
   due-sound hart positions (line_is.Store va word) Idle = refl
   due-sound hart positions (line_is.Store va word) (Seeking walk) = refl
   due-sound hart positions (line_is.Store va word) (Removing page) = refl
+  due-sound hart positions (line_is.Store va word) Destroying = refl
   due-sound hart positions (line_is.Store va word) (Putting done) = refl
   due-sound hart positions (line_is.Store va word) (Running micro count) = refl
   due-sound hart positions (line_is.Create e image pages) Idle = refl
   due-sound hart positions (line_is.Create e image pages) (Seeking walk) = refl
   due-sound hart positions (line_is.Create e image pages) (Removing page) = refl
+  due-sound hart positions (line_is.Create e image pages) Destroying = refl
   due-sound hart positions (line_is.Create e image pages) (Putting done) = refl
   due-sound hart positions (line_is.Create e image pages) (Running micro count) = refl
   due-sound hart positions (line_is.Run e budget) Idle = refl
   due-sound hart positions (line_is.Run e budget) (Seeking walk) = refl
   due-sound hart positions (line_is.Run e budget) (Removing page) = refl
+  due-sound hart positions (line_is.Run e budget) Destroying = refl
   due-sound hart positions (line_is.Run e budget) (Putting done) = refl
   due-sound hart positions (line_is.Run e budget) (Running micro count) = refl
   due-sound hart positions (line_is.Resume e budget) Idle = refl
   due-sound hart positions (line_is.Resume e budget) (Seeking walk) = refl
   due-sound hart positions (line_is.Resume e budget) (Removing page) = refl
+  due-sound hart positions (line_is.Resume e budget) Destroying = refl
   due-sound hart positions (line_is.Resume e budget) (Putting done) = refl
   due-sound hart positions (line_is.Resume e budget) (Running micro count) = refl
+  due-sound hart positions (line_is.Destroy e) Idle = refl
+  due-sound hart positions (line_is.Destroy e) (Seeking walk) = refl
+  due-sound hart positions (line_is.Destroy e) (Removing page) = refl
+  due-sound hart positions (line_is.Destroy e) Destroying = waiting-sound (ends_destroy w hart e) (lacked_by w hart)
+  due-sound hart positions (line_is.Destroy e) (Putting done) = refl
+  due-sound hart positions (line_is.Destroy e) (Running micro count) = refl
   due-sound hart positions (line_is.After actor count) Idle = waits-sound w actor count _
   due-sound hart positions line Idle = refl
   due-sound hart positions line (Seeking walk) = refl
   due-sound hart positions line (Removing page) = refl
+  due-sound hart positions line Destroying = refl
   due-sound hart positions line (Putting done) = refl
   due-sound hart positions line (Running micro count) = refl
 

@@ -18,6 +18,7 @@ use Rattle.mon_fence.specs.declared.fences.Fence.{Fence}
 use Rattle.mon_fence.specs.Fences.{fence_of}
 use Rattle.mon_host.specs.Unmapping.{HaveHostLeaves}
 use Rattle.mon_image.specs.declared.page.ImagePage.{ImagePage}
+use Rattle.mon_life.specs.Destroying.{held_by}
 use Rattle.mon_life.specs.Making.{CreateBegun, create_begun}
 use Rattle.mon_life.specs.Putting.{steps_of}
 use Rattle.mon_owner.specs.Owners.{is_host, is_mapped, may_be_mapped, owner_at}
@@ -147,6 +148,28 @@ pub record CanEndUnmap (w : WorldData) (hart page : ℕ) : Type 0 where
   pub fence : Fence
   pub fence_is : fence_of w.fences hart ≡ Some fence
   pub mapped : IsTrue (is_mapped (owner_at w.owners page))
+
+-- ---- giving back
+
+-- a number may be given back: it is there, and the hart has no fence
+pub record CanDestroy (w : WorldData) (hart e : ℕ) : Type 0 where
+  pub harts : CanGo w hart
+  pub number : e < length w.enclaves
+  pub tlbs : hart < length w.tlbs
+  pub fences : hart < length w.fences
+  pub none : fence_of w.fences hart ≡ None
+
+-- and it is being given back: each page that it holds is one of the controller's, and has an owner
+pub record CanEndDestroy (w : WorldData) (hart e : ℕ) : Type 0 where
+  pub harts : CanGo w hart
+  pub number : e < length w.enclaves
+  pub fences : hart < length w.fences
+  pub fence : Fence
+  pub fence_is : fence_of w.fences hart ≡ Some fence
+  pub inside : All (λ page. page < 64 * w.ctl.zones) (held_by w.enclaves e)
+  pub owned : All (λ page. page < length w.owners) (held_by w.enclaves e)
+
+-- ---- acknowledgements
 
 -- a hart may acknowledge
 pub record CanAcknowledge (w : WorldData) (hart : ℕ) : Type 0 where

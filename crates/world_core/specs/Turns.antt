@@ -1,6 +1,7 @@
 -- A hart's line without its pages, the turn that it makes, and what a turn of the machine came to.
 use Rattle.std.specs.Prelude.{ℕ, ◌≡◌, ◌+◌, ◌%◌, ◌<◌, ◌==◌, Bool, true, false, if◌then◌else◌, List, length, Option, Some, None}
 use Rattle.pl_base.specs.declared.address.Va.{Va}
+use Rattle.pl_base.specs.declared.number.EncNo.{EncNo}
 use Rattle.pl_base.specs.declared.number.Space.{Space}
 use Rattle.pl_base.specs.declared.perms.Perms.{Perms}
 use Rattle.rv_hart.specs.declared.walks.Micro.{Micro}
@@ -19,18 +20,19 @@ use Rattle.world_core.specs.declared.dues.Attack.{Attack}
 use Rattle.world_core.specs.declared.dues.Attack.TheVariants as attack_is
 use Rattle.world_core.specs.declared.dues.Due.{Due}
 use Rattle.world_core.specs.declared.dues.Due.TheVariants as due_is
-use Rattle.world_core.specs.Conditions.{CanAccess, CanAcknowledge, CanAnswer, CanAttack, CanEndUnmap, CanGo, CanMake, CanMap, CanPut, CanReach, CanUnmap}
+use Rattle.world_core.specs.Conditions.{CanAccess, CanAcknowledge, CanAnswer, CanAttack, CanDestroy, CanEndDestroy, CanEndUnmap, CanGo, CanMake, CanMap, CanPut, CanReach, CanUnmap}
 use Rattle.world_machine.specs.declared.turned.Turned.{Turned}
 use Rattle.world_machine.specs.declared.turned.Turned.TheVariants as turned
 use Rattle.world_machine.specs.declared.under.Under.{Under}
-use Rattle.world_machine.specs.declared.under.Under.TheVariants.{Idle, Seeking, Removing, Putting, Running}
+use Rattle.world_machine.specs.declared.under.Under.TheVariants.{Idle, Seeking, Removing, Destroying, Putting, Running}
 use Rattle.world_machine.specs.Answering.{answers, quiet}
 use Rattle.world_machine.specs.Attacking.{attacker_waited, attacks}
+use Rattle.world_machine.specs.GivingBack.{begins_destroy, ends_destroy}
 use Rattle.world_machine.specs.HostAccessing.{WordAccess, accesses_host, begins_access, loads, stores}
-use Rattle.world_machine.specs.HostMapping.{begins_unmap, lacked_by, maps}
+use Rattle.world_machine.specs.HostMapping.{begins_unmap, ends_unmap, lacked_by, maps}
 use Rattle.world_machine.specs.Making.{begin_create, put_next}
 use Rattle.world_machine.specs.Running.{begin_run, runs}
-use Rattle.world_machine.specs.Steps.{Turn, moves, rests, shown_by, turned_by, unmap_turn, waits}
+use Rattle.world_machine.specs.Steps.{Turn, moves, rests, shown_by, turned_by, waiting_turn, waits}
 use Rattle.world_machine.specs.Talking.{sends_word, takes_word}
 use Rattle.world_machine.specs.Worlds.{WorldData, attacker_line, hart_line, under_at}
 
@@ -46,6 +48,7 @@ due_of (Some (line_is.Run e budget)) = due_is.Run e budget true
 due_of (Some (line_is.Resume e budget)) = due_is.Run e budget false
 due_of (Some (line_is.Send e word)) = due_is.Send e word
 due_of (Some (line_is.Take e)) = due_is.Take e
+due_of (Some (line_is.Destroy e)) = due_is.Destroy e
 due_of (Some (line_is.After actor count)) = due_is.After actor count
 due_of line = due_is.Nothing
 
@@ -75,6 +78,11 @@ CanRunSoFar w hart e budget Idle = CanGo w hart × (e < length w.enclaves)
 CanRunSoFar w hart e budget (Running micro count) = CanReach w (record { hart = hart; e = e; budget = budget; count = count }) micro
 CanRunSoFar w hart e budget under = Unit {0}
 
+abbrev pub CanDestroySoFar : WorldData → ℕ → ℕ → Under → Type 0
+CanDestroySoFar w hart e Idle = CanDestroy w hart e
+CanDestroySoFar w hart e Destroying = CanEndDestroy w hart e
+CanDestroySoFar w hart e under = Unit {0}
+
 -- what a line needs that is answered at once
 abbrev pub CanSay : WorldData → ℕ → Due → Type 0
 CanSay w hart (due_is.Send e word) = CanGo w hart × (e.0 < length w.enclaves)
@@ -93,6 +101,7 @@ CanDue w hart (due_is.Map va page perms) under = CanMapSoFar w hart page perms u
 CanDue w hart (due_is.Unmap va) under = CanUnmapSoFar w hart under
 CanDue w hart (due_is.Create e image) under = CanCreateSoFar w hart e.0 image under
 CanDue w hart (due_is.Run e budget first) under = CanRunSoFar w hart e.0 budget under
+CanDue w hart (due_is.Destroy e) under = CanDestroySoFar w hart e.0 under
 CanDue w hart due under = CanSayIdle w hart due under
 
 -- ---- the turn of a line, so far
@@ -109,7 +118,7 @@ module _ (digest_of : List ℕ → List ℕ) where
 
   abbrev pub unmap_so_far : WorldData → ℕ → List ℕ → Va → Under → Turn
   unmap_so_far w hart positions va Idle = moves (begins_unmap digest_of w hart positions va)
-  unmap_so_far w hart positions va (Removing page) = unmap_turn w hart page (lacked_by w hart)
+  unmap_so_far w hart positions va (Removing page) = waiting_turn (ends_unmap w hart page) (lacked_by w hart)
   unmap_so_far w hart positions va under = rests turned.Done
 
   abbrev pub create_turn : WorldData → ℕ → List ℕ → List ℕ → ℕ → ℕ → Under → Turn
@@ -121,6 +130,11 @@ module _ (digest_of : List ℕ → List ℕ) where
   run_turn w hart positions e budget first Idle = moves (begin_run w hart e first)
   run_turn w hart positions e budget first (Running micro count) = moves (runs digest_of w hart positions e budget micro count)
   run_turn w hart positions e budget first under = rests turned.Done
+
+abbrev pub destroy_so_far : WorldData → ℕ → EncNo → Under → Turn
+destroy_so_far w hart e Idle = moves (begins_destroy w hart e)
+destroy_so_far w hart e Destroying = waiting_turn (ends_destroy w hart e) (lacked_by w hart)
+destroy_so_far w hart e under = rests turned.Done
 
 -- a line that is answered at once
 abbrev pub say_turn : WorldData → ℕ → Due → Turn
@@ -142,6 +156,7 @@ module _ (digest_of : List ℕ → List ℕ) where
   due_turn w hart positions pages (due_is.Unmap va) under = unmap_so_far digest_of w hart positions va under
   due_turn w hart positions pages (due_is.Create e image) under = create_turn digest_of w hart positions pages e.0 image under
   due_turn w hart positions pages (due_is.Run e budget first) under = run_turn digest_of w hart positions e.0 budget first under
+  due_turn w hart positions pages (due_is.Destroy e) under = destroy_so_far w hart e under
   due_turn w hart positions pages due under = begun_turn under (say_turn w hart due)
 
 -- what a hart's turn needs

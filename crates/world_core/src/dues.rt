@@ -24,6 +24,7 @@ pub(crate) enum Due {
     Run { e: EncNo, budget: u32, first: bool },
     Send { e: EncNo, word: u64 },
     Take { e: EncNo },
+    Destroy { e: EncNo },
     After { actor: u8, count: u32 },
 }
 
@@ -59,6 +60,7 @@ fn due_of(line: Option<&Line>) -> Due
         },
         Some(Line::Send { e, word }) => Due::Send { e: *e, word: *word },
         Some(Line::Take { e }) => Due::Take { e: *e },
+        Some(Line::Destroy { e }) => Due::Destroy { e: *e },
         Some(Line::After { actor, count }) => Due::After {
             actor: *actor,
             count: *count,

@@ -13,7 +13,7 @@ ghost use Rattle.world_core.specs.Conditions.{CanEndUnmap, CanGo, CanMap, CanUnm
 ghost use Rattle.world_core.specs.Events.{IsEvent, mapped_by, unmapped_by};
 ghost use Rattle.world_core.specs.Turns.{IsTurn};
 ghost use Rattle.world_machine.specs.HostMapping.{begins_unmap, ends_unmap, lacked_by, maps};
-ghost use Rattle.world_machine.specs.Steps.{unmap_turn};
+ghost use Rattle.world_machine.specs.Steps.{waiting_turn};
 
 use crate::machine::Machine;
 use mem_ctl::Stop;
@@ -124,7 +124,7 @@ impl<D: Digester, F: Fn(&[SlotUse]) -> usize> Machine<D, F> {
     /// The turn of an `unmap` that has begun: it waits for the harts that have yet to acknowledge its fence.
     pub(crate) fn unmap_turn(&mut self, hart: HartNo, page: u32) -> Turned
         requires can { CanEndUnmap self.old.0 hart.0 page }
-        ensures turn { IsTurn (FnReturnsAt F.Fn self.old.1) (λ positions. unmap_turn self.old.0 hart.0 page (lacked_by self.old.0 hart.0)) result self.old.0 self.new.0 }
+        ensures turn { IsTurn (FnReturnsAt F.Fn self.old.1) (λ positions. waiting_turn (ends_unmap self.old.0 hart.0 page) (lacked_by self.old.0 hart.0)) result self.old.0 self.new.0 }
         ensures choice { self.new.1 ≡ self.old.1 }
     {
         match self.fences.waits(hart) {

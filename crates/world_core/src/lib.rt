@@ -5,6 +5,7 @@ mod acknowledging;
 mod acting;
 mod attacking;
 mod dues;
+mod giving_back;
 mod host_accessing;
 mod host_mapping;
 mod machine;

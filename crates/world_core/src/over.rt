@@ -48,6 +48,7 @@ impl<D: Digester, F> Machine<D, F> {
             Due::Run { .. } => false,
             Due::Send { .. } => false,
             Due::Take { .. } => false,
+            Due::Destroy { .. } => false,
         }
     }
 
@@ -62,6 +63,7 @@ impl<D: Digester, F> Machine<D, F> {
             (Due::Unmap { .. }, Under::Removing { .. }) => false,
             (Due::Create { .. }, Under::Putting { .. }) => false,
             (Due::Run { .. }, Under::Running { .. }) => false,
+            (Due::Destroy { .. }, Under::Destroying) => false,
             _ => true,
         }
     }

@@ -4,7 +4,7 @@ ghost use Rattle.std.specs.Fn.{FnReturnsAt};
 ghost use Rattle.mem_slots.specs.Choices.{NamesPosition};
 ghost use Rattle.world_core.specs.Conditions.{CanGo, pages_due};
 ghost use Rattle.world_core.specs.HostAccessing.{access_now};
-ghost use Rattle.world_core.specs.Turns.{CanAccessSoFar, CanCreateSoFar, CanDue, CanMapSoFar, CanRunSoFar, CanSay, CanSayIdle, CanUnmapSoFar, IsTurn, access_turn, begun_turn, create_turn, due_turn, map_turn, run_turn, say_turn, unmap_so_far};
+ghost use Rattle.world_core.specs.Turns.{CanAccessSoFar, CanCreateSoFar, CanDestroySoFar, CanDue, CanMapSoFar, CanRunSoFar, CanSay, CanSayIdle, CanUnmapSoFar, IsTurn, access_turn, begun_turn, create_turn, destroy_so_far, due_turn, map_turn, run_turn, say_turn, unmap_so_far};
 ghost use Rattle.world_machine.specs.Answering.{answers, quiet};
 ghost use Rattle.world_machine.specs.Steps.{waits};
 
@@ -30,6 +30,7 @@ impl<D: Digester, F: Fn(&[SlotUse]) -> usize> Machine<D, F> {
             Under::Idle => self.begin_access(hart, va, access),
             Under::Seeking { walk } => self.access_host(hart, va, access, walk),
             Under::Removing { .. } => return Turned::Done,
+            Under::Destroying => return Turned::Done,
             Under::Putting { .. } => return Turned::Done,
             Under::Running { .. } => return Turned::Done,
         }
@@ -47,6 +48,7 @@ impl<D: Digester, F: Fn(&[SlotUse]) -> usize> Machine<D, F> {
             Under::Idle => self.map(hart, va, page, perms),
             Under::Seeking { .. } => return Turned::Done,
             Under::Removing { .. } => return Turned::Done,
+            Under::Destroying => return Turned::Done,
             Under::Putting { .. } => return Turned::Done,
             Under::Running { .. } => return Turned::Done,
         }
@@ -67,6 +69,7 @@ impl<D: Digester, F: Fn(&[SlotUse]) -> usize> Machine<D, F> {
             }
             Under::Removing { page } => self.unmap_turn(hart, page),
             Under::Seeking { .. } => Turned::Done,
+            Under::Destroying => Turned::Done,
             Under::Putting { .. } => Turned::Done,
             Under::Running { .. } => Turned::Done,
         }
@@ -86,6 +89,7 @@ impl<D: Digester, F: Fn(&[SlotUse]) -> usize> Machine<D, F> {
             Under::Putting { done } => self.put_next(hart, e, image, done),
             Under::Seeking { .. } => return Turned::Done,
             Under::Removing { .. } => return Turned::Done,
+            Under::Destroying => return Turned::Done,
             Under::Running { .. } => return Turned::Done,
         }
         Turned::Moved
@@ -113,9 +117,29 @@ impl<D: Digester, F: Fn(&[SlotUse]) -> usize> Machine<D, F> {
             }
             Under::Seeking { .. } => return Turned::Done,
             Under::Removing { .. } => return Turned::Done,
+            Under::Destroying => return Turned::Done,
             Under::Putting { .. } => return Turned::Done,
         }
         Turned::Moved
+    }
+
+    /// `destroy`, so far.
+    fn destroy(&mut self, hart: HartNo, e: EncNo, under: Under) -> Turned
+        requires can { CanDestroySoFar self.old.0 hart.0 e.0 under }
+        ensures turn { IsTurn (FnReturnsAt F.Fn self.old.1) (λ positions. destroy_so_far self.old.0 hart.0 e under) result self.old.0 self.new.0 }
+        ensures choice { self.new.1 ≡ self.old.1 }
+    {
+        match under {
+            Under::Idle => {
+                self.begin_destroy(hart, e);
+                Turned::Moved
+            }
+            Under::Destroying => self.destroy_turn(hart, e),
+            Under::Seeking { .. } => Turned::Done,
+            Under::Removing { .. } => Turned::Done,
+            Under::Putting { .. } => Turned::Done,
+            Under::Running { .. } => Turned::Done,
+        }
     }
 
     /// `after`: it waits until that actor has answered so many lines.
@@ -148,6 +172,7 @@ impl<D: Digester, F: Fn(&[SlotUse]) -> usize> Machine<D, F> {
             Due::Unmap { .. } => return Turned::Done,
             Due::Create { .. } => return Turned::Done,
             Due::Run { .. } => return Turned::Done,
+            Due::Destroy { .. } => return Turned::Done,
             Due::Nothing => return Turned::Done,
         }
         Turned::Moved
@@ -163,6 +188,7 @@ impl<D: Digester, F: Fn(&[SlotUse]) -> usize> Machine<D, F> {
             Under::Idle => self.say(hart, due),
             Under::Seeking { .. } => Turned::Done,
             Under::Removing { .. } => Turned::Done,
+            Under::Destroying => Turned::Done,
             Under::Putting { .. } => Turned::Done,
             Under::Running { .. } => Turned::Done,
         }
@@ -182,6 +208,7 @@ impl<D: Digester, F: Fn(&[SlotUse]) -> usize> Machine<D, F> {
             Due::Unmap { va } => self.unmap_line(hart, va, under),
             Due::Create { e, image } => self.create(hart, e, image, under),
             Due::Run { e, budget, first } => self.run(hart, e, budget, first, under),
+            Due::Destroy { e } => self.destroy(hart, e, under),
             Due::Send { .. } => self.say_idle(hart, due, under),
             Due::Take { .. } => self.say_idle(hart, due, under),
             Due::After { .. } => self.say_idle(hart, due, under),

@@ -20,6 +20,7 @@ fn is_built(line: &Line) -> bool
             | Line::Resume { .. }
             | Line::Send { .. }
             | Line::Take { .. }
+            | Line::Destroy { .. }
             | Line::After { .. }
     )
 }

@@ -49,6 +49,7 @@ module _ (digest_of : List ℕ → List ℕ) (w : WorldData) (k : Kept digest_of
     harts = k.stands.translations.harts;
     fences_stand = k.stands.translations.fences_stand;
     removals = k.stands.translations.removals;
+    giving = k.stands.translations.giving;
     fresh = record {
       entries = k.stands.translations.fresh.entries;
       walks = λ hart. walk_over digest_of w k ctl (tables_stay digest_of w k ctl stay) hart;

@@ -45,10 +45,11 @@ use Rattle.world_machine.specs.Worlds.{WorldData, answered_at, attacker_line, ha
 use Rattle.world_machine.proofs.ChangedBytes.{may_say, same_then_unchanged}
 use Rattle.world_machine.proofs.HostBytes.{page_overwritten}
 use Rattle.world_machine.proofs.LineMoves.{LineMoves, joined}
+use Rattle.world_machine.proofs.LineTranslations.{isnt_waiting}
 use Rattle.world_machine.proofs.Lists.{ChangedAt, changed_set, if_other, if_same}
 use Rattle.world_machine.proofs.QuietRows.{attacks_live, idle_has_none, idle_put_none, none_some}
 use Rattle.world_machine.proofs.RowKept.{attacks_frame, line_after, row_kept, same_sizes}
-use Rattle.world_machine.proofs.TranslationFrames.{quiet_translations, removal_so}
+use Rattle.world_machine.proofs.TranslationFrames.{quiet_translations}
 
 -- a page that has an owner is there
 owner_within : (owners : List Owner) (page : ℕ) (o : Option Owner) → slice_get owners page ≡ o → is_host (option_map owner_of o) ≡ true → page < length owners
@@ -298,7 +299,7 @@ module _ (digest_of : List ℕ → List ℕ) (room_stays : RoomStays) (w : World
         own_apart = λ other e differs own there. none_some e _ (idle_has_none _) own;
         translations = quiet_translations digest_of w k (with_off_chip w.ctl y.off_chip) refl (state_by changed) (space_by changed) (removals_by changed) (number_by changed) actor
             (line_after w answered') (under_at w.under) (λ hart other. ap (slice_get (script_of w.setup hart)) (answered_change.others hart other)) (λ hart other. refl)
-            (removal_so digest_of w k actor Idle idle refl) idle;
+            (ap isnt_waiting idle) idle;
       })
 
   -- ---- a keeping, and a wait
@@ -321,7 +322,7 @@ module _ (digest_of : List ℕ → List ℕ) (room_stays : RoomStays) (w : World
     own_line = tt;
     own_apart = λ other e differs own there. none_some e _ (idle_has_none _) own;
     translations = quiet_translations digest_of w k w.ctl refl (answer s actor) refl refl refl actor (line_after w answered') (under_at w.under)
-        (λ hart other. ap (slice_get (script_of w.setup hart)) (answered_change.others hart other)) (λ hart other. refl) (removal_so digest_of w k actor Idle idle refl) idle;
+        (λ hart other. ap (slice_get (script_of w.setup hart)) (answered_change.others hart other)) (λ hart other. refl) (ap isnt_waiting idle) idle;
   })
 
   abbrev world_from : Exposed → WorldData

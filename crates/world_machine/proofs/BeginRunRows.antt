@@ -18,7 +18,7 @@ use Rattle.mon_enclave.specs.Records.{enclave_at, free_enclave, with_enclave}
 use Rattle.mon_life.specs.Running.{may_run, run_begun, run_refusal_of}
 use Rattle.pl_history.specs.declared.answer.Answer.TheVariants as answer_is
 use Rattle.pl_history.specs.declared.line.Line.{Line}
-use Rattle.pl_history.specs.declared.line.Line.TheVariants.{Create, Run, Resume}
+use Rattle.pl_history.specs.declared.line.Line.TheVariants.{Create, Run, Resume, Destroy}
 use Rattle.pl_history.specs.declared.setup.SetupParts.{SetupParts}
 use Rattle.pl_history.specs.Legal.{AllowedAnswer, after_answer}
 use Rattle.pl_history.specs.Monitor.{Monitor, Number, answer, begin}
@@ -26,7 +26,7 @@ use Rattle.pl_history.specs.Rules.{is_line}
 use Rattle.pl_history.specs.Running.{entered}
 use Rattle.world_attack.specs.Room.{RoomStays}
 use Rattle.world_machine.specs.declared.under.Under.{Under}
-use Rattle.world_machine.specs.declared.under.Under.TheVariants.{Idle, Putting, Running}
+use Rattle.world_machine.specs.declared.under.Under.TheVariants.{Idle, Destroying, Putting, Running}
 use Rattle.world_machine.specs.Answering.{entry_now, with_entry}
 use Rattle.world_machine.specs.BytesAgree.{HasPut}
 use Rattle.world_machine.specs.EnclavesAgree.{EnclaveStands, EnclavesAgree, StatusStands}
@@ -40,13 +40,13 @@ use Rattle.world_machine.specs.Worlds.{WorldData, answered_at, hart_line, under_
 use Rattle.world_machine.proofs.Frames.{Frame, enclaves_frame, line_frame, records_frame}
 use Rattle.world_machine.proofs.LineKinds.{begun_line}
 use Rattle.world_machine.proofs.LineMoves.{LineMoves}
-use Rattle.world_machine.proofs.LineTranslations.{isnt_removing}
+use Rattle.world_machine.proofs.LineTranslations.{isnt_waiting}
 use Rattle.world_machine.proofs.Lists.{ChangedAt, changed_set, everywhere, if_other, if_same}
 use Rattle.world_machine.proofs.QuietRows.{answers_kept, attacks_live}
 use Rattle.world_machine.proofs.RowKept.{line_after, row_kept}
 use Rattle.world_machine.proofs.SentOut.{retired_few}
 use Rattle.world_machine.proofs.SetupFacts.{line_forms, used_there}
-use Rattle.world_machine.proofs.TranslationFrames.{KeepsSpace, SpacesStay, TablePagesStay, entries_stay, removal_so, same_keeps, translations_stay, written_stay}
+use Rattle.world_machine.proofs.TranslationFrames.{KeepsSpace, SpacesStay, TablePagesStay, entries_stay, same_keeps, translations_stay, written_stay}
 
 -- `run`, or `resume` where it isn't the first run
 abbrev pub run_of : Bool → EncNo → ℕ → Line
@@ -59,7 +59,7 @@ is_ready state_is.Fresh = true
 is_ready state_is.Paused = true
 is_ready _ = false
 
-none_is : {A : Type 0} (a : A) → Some a ≡ None → ⊥
+pub none_is : {A : Type 0} (a : A) → Some a ≡ None → ⊥
 none_is a is = cc
 
 ready_by : (first : Bool) (state : State) → run_refusal (may_run first) state ≡ None → is_ready state ≡ true
@@ -115,6 +115,8 @@ busy setup bytes rec number hart e (Some (Run f budget)) (Running micro count) k
     subst (λ g. is_ready (rec g).state ≡ false) (ap (λ o. unwrap_or o f.0) is) (ap is_ready k.state)
 busy setup bytes rec number hart e (Some (Resume f budget)) (Running micro count) k is =
     subst (λ g. is_ready (rec g).state ≡ false) (ap (λ o. unwrap_or o f.0) is) (ap is_ready k.state)
+busy setup bytes rec number hart e (Some (Destroy f)) Destroying k is =
+    subst (λ g. is_ready (rec g).state ≡ false) (ap (λ o. unwrap_or o f.0) is) (ap is_ready k)
 busy setup bytes rec number hart e line under k is = cc
 
 -- what a run's line says in the monitor
@@ -230,6 +232,8 @@ module _ (digest_of : List ℕ → List ℕ) (room_stays : RoomStays) (w : World
       apart = x.apart;
       owned = x.owned;
       parent = x.parent;
+      spares = x.spares;
+      given = x.given;
       now = x.now;
       alone_is = x.alone_is;
       context = x.context;
@@ -241,7 +245,7 @@ module _ (digest_of : List ℕ → List ℕ) (room_stays : RoomStays) (w : World
       shown_few = x.shown_few;
       shown = x.shown;
       pages = x.pages;
-      start = x.start;
+      start = λ not_live alive. absurd (false≢true (sym not_live ∙ live));
     }
 
     frame : Frame w.setup e.0 (enclave_at w.enclaves) (enclave_at enclaves') s.number s'.number (written_page w) (written_page w) w.owners w.owners
@@ -313,8 +317,8 @@ module _ (digest_of : List ℕ → List ℕ) (room_stays : RoomStays) (w : World
           contexts = λ other f differs is. ap (λ (y : Enclave). y.context) (change.others f (not_theirs other f is));
           harts = refl;
           tlbs = λ other differs. refl;
-          none_removed = removal_so digest_of w k hart Idle idle refl;
-          removes_none = ap isnt_removing moves.under_change.here;
+          waited_none = ap isnt_waiting idle;
+          waits_none = ap isnt_waiting moves.under_change.here;
           entries = entries_stay digest_of w k w.ctl (enclave_at enclaves') w.owners s' spaces hart;
           walk = subst (λ u. WalkingStands w.ctl (IsFresh w.setup s' w.fences hart) (walking w.setup.tables (enclave_at enclaves') (hart_line w hart) u)) (sym moves.under_change.here)
               (subst (λ l. WalkingStands w.ctl (IsFresh w.setup s' w.fences hart) (walking w.setup.tables (enclave_at enclaves') l (Running (Fetching Start) 0))) (sym here)
@@ -353,7 +357,7 @@ module _ (digest_of : List ℕ → List ℕ) (room_stays : RoomStays) (w : World
   begin_by (Some cause) is = answers_kept digest_of room_stays w k none hart below (run_of first e budget) (answer_is.No cause) refl here
       (subst (λ b. AllowedAnswer w.setup s (run_of first e budget) b (answer_is.No cause)) (sym not_begun)
       (refused_run w.setup s first e budget cause (ap (run_refusal (may_run first)) agrees.state ∙ is)))
-      (refused_stays s hart first e budget cause) (removal_so digest_of w k hart Idle idle refl)
+      (refused_stays s hart first e budget cause) (ap isnt_waiting idle)
   begin_by None is = begun_kept (ready_by first r.state is) is
 
   pub begin_run_kept : Kept digest_of (begin_run w hart e.0 first).world

@@ -15,6 +15,7 @@ use Rattle.mon_host.specs.Leaves.{host_space, is_being_removed}
 use Rattle.mon_tables.specs.Space.{Mapping}
 use Rattle.pl_history.specs.Monitor.{Removal, removed_at}
 use Rattle.world_machine.specs.FencesStand.{FenceStands, FencesStand, removals_by}
+use Rattle.world_machine.proofs.Leaving.{number_not_host}
 
 -- ---- a test of the fences
 
@@ -91,26 +92,30 @@ module _ (harts : ℕ) (fences : List (Option Fence)) (removals : List Removal) 
   vpn : Vpn
   vpn = vpn_of va
 
-  -- a fence that covers the address is of a mapping that is being removed
+  -- a fence that covers the address is none of a number, so it is of a mapping that is being removed
   covering : (fence : Option Fence) (removed : List Mapping) → FenceStands fence removed → covers host_space (vpn_of va) fence ≡ true → (m : Mapping) × (removed ≡ m ∷ []) × (m.vpn ≡ (vpn_of va).0)
   covering None removed agrees is = absurd (false≢true is)
-  covering (Some fence) removed agrees is =
+  covering (Some fence) removed (inl (m, taken, space, at)) is =
       let page : option_map_or (λ (page : Vpn). eqb page.0 (vpn_of va).0) fence.vpn true ≡ true
       = (and_parts (eqb fence.space.0 host_space.0) (option_map_or (λ (page : Vpn). eqb page.0 (vpn_of va).0) fence.vpn true) is).1 in
-      (agrees.0, agrees.1, eqb-true agrees.0.vpn (vpn_of va).0 (ap (λ o. option_map_or (λ (page : Vpn). eqb page.0 (vpn_of va).0) o true) (sym agrees.3) ∙ page))
+      (m, taken, eqb-true m.vpn (vpn_of va).0 (ap (λ o. option_map_or (λ (page : Vpn). eqb page.0 (vpn_of va).0) o true) (sym at) ∙ page))
+  covering (Some fence) removed (inr (e, of_number, none)) is =
+      let host : fence.space.0 ≡ 0 = eqb-true fence.space.0 0 (and_parts (eqb fence.space.0 0) (option_map_or (λ (page : Vpn). eqb page.0 (vpn_of va).0) fence.vpn true) is).0 in
+      absurd (number_not_host fence e of_number (λ i. record { 0 = host i }))
 
   -- the fence of a hart that removes a mapping of the address covers it
   covered : (fence : Option Fence) (removed : List Mapping) (m : Mapping) → FenceStands fence removed → Contains removed m → m.vpn ≡ (vpn_of va).0 → covers host_space (vpn_of va) fence ≡ true
   covered None removed m agrees (i, below, is) at = absurd (let none : length removed ≡ 0 = ap length agrees in omega arith)
-  covered (Some fence) removed m agrees here at =
-      let same : agrees.0 ≡ m = one (subst (λ ms. Contains ms m) agrees.1 here) in
-      ap (λ (space : Space). eqb space.0 host_space.0 && option_map_or (λ (page : Vpn). eqb page.0 (vpn_of va).0) fence.vpn true) agrees.2
-      ∙ ap (λ o. option_map_or (λ (page : Vpn). eqb page.0 (vpn_of va).0) o true) agrees.3
-      ∙ eq-eqb agrees.0.vpn (vpn_of va).0 (ap (λ (x : Mapping). x.vpn) same ∙ at)
+  covered (Some fence) removed m (inr (e, of_number, none)) (i, below, is) at = absurd (let empty : length removed ≡ 0 = ap length none in omega arith)
+  covered (Some fence) removed m (inl (gone, taken, space, page)) here at =
+      let same : gone ≡ m = one gone (subst (λ ms. Contains ms m) taken here) in
+      ap (λ (space : Space). eqb space.0 host_space.0 && option_map_or (λ (page : Vpn). eqb page.0 (vpn_of va).0) fence.vpn true) space
+      ∙ ap (λ o. option_map_or (λ (page : Vpn). eqb page.0 (vpn_of va).0) o true) page
+      ∙ eq-eqb gone.vpn (vpn_of va).0 (ap (λ (x : Mapping). x.vpn) same ∙ at)
     where
-      one : Contains (agrees.0 ∷ []) m → agrees.0 ≡ m
-      one (zero, below, is) = is
-      one (suc i, below, is) = absurd (omega arith)
+      one : (gone : Mapping) → Contains (gone ∷ []) m → gone ≡ m
+      one gone (zero, below, is) = is
+      one gone (suc i, below, is) = absurd (omega arith)
 
   pub busy_same : is_some (removed_at removals (vpn_of va).0) ≡ is_being_removed fences va
   unfolding is_at

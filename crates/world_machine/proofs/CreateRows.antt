@@ -23,6 +23,7 @@ use Rattle.mon_life.proofs.BegunLemmas.{free_pages}
 use Rattle.mon_owner.specs.declared.owners.Owner.{Owner}
 use Rattle.mon_owner.specs.declared.owners.Owner.TheVariants as owner_is
 use Rattle.mon_owner.specs.Owners.{given_to}
+use Rattle.mon_owner.proofs.OwnerLists.{given_other, length-given_to}
 use Rattle.pl_history.specs.declared.answer.Answer.TheVariants as answer_is
 use Rattle.pl_history.specs.declared.line.Line.TheVariants.{Create}
 use Rattle.pl_history.specs.Legal.{AllowedAnswer}
@@ -45,13 +46,13 @@ use Rattle.world_machine.proofs.CreateRefusals.{MayCreate, may_create, refusal_s
 use Rattle.world_machine.proofs.Frames.{Frame, enclaves_frame, line_frame, records_frame}
 use Rattle.world_machine.proofs.LineKinds.{begun_line}
 use Rattle.world_machine.proofs.LineMoves.{LineMoves}
-use Rattle.world_machine.proofs.LineTranslations.{isnt_removing}
+use Rattle.world_machine.proofs.LineTranslations.{isnt_waiting}
 use Rattle.world_machine.proofs.Lists.{ChangedAt, changed_set, everywhere, if_other, if_same}
-use Rattle.world_machine.proofs.OwnersGiven.{given_here, given_other, in_among, length_given, not_listed}
+use Rattle.world_machine.proofs.OwnersGiven.{given_here, in_among, not_listed}
 use Rattle.world_machine.proofs.QuietRows.{answers_kept}
 use Rattle.world_machine.proofs.RowKept.{RowFacts, attacks_frame, line_after, row_kept}
 use Rattle.world_machine.proofs.SetupFacts.{CreateNames, create_names, entry_aligned, used_there}
-use Rattle.world_machine.proofs.TranslationFrames.{KeepsSpace, SpacesStay, TablePagesStay, entries_stay, live_in_use, removal_so, same_keeps, translations_stay, written_stay}
+use Rattle.world_machine.proofs.TranslationFrames.{KeepsSpace, SpacesStay, TablePagesStay, entries_stay, live_in_use, same_keeps, translations_stay, written_stay}
 use Rattle.world_machine.proofs.UnderWay.{line_used, own_numbers, some_same}
 
 module _ (digest_of : List ℕ → List ℕ) (room_stays : RoomStays) (w : WorldData) (k : Kept digest_of w) (none : w.collision ≡ None) (hart : ℕ) (below : hart < w.setup.harts)
@@ -74,7 +75,7 @@ module _ (digest_of : List ℕ → List ℕ) (room_stays : RoomStays) (w : World
   refused_kept cause is = answers_kept digest_of room_stays w k none hart below (Create e image pages) (answer_is.No cause) refl here
       (subst (λ b. AllowedAnswer w.setup s (Create e image pages) b (answer_is.No cause)) (sym not_begun) (sym refusal_is ∙ is))
       (ap (λ b. answer (if b then made_faulted s e.0 else s) hart) (ap (λ (p : Progress). p.begun) (k.stands.progress hart) ∙ not_begun))
-      (removal_so digest_of w k hart Idle idle refl)
+      (ap isnt_waiting idle)
 
   -- ---- begun
 
@@ -194,6 +195,8 @@ module _ (digest_of : List ℕ → List ℕ) (room_stays : RoomStays) (w : World
       apart = subst (λ ps. first_twice ps ≡ None) (sym (own_numbers pages)) may.apart;
       owned = subst (All (IsOwn owners' e.0)) (sym (own_numbers pages)) owned;
       parent = refl;
+      spares = refl;
+      given = refl;
       now = start_of (flat_image names.image);
       alone_is = alone_is;
       context = ap start_context image_now ∙ (λ i. record { regs = start_registers (sym (length-map names.image.pages flat_page) i); pc = names.image.entry });
@@ -206,7 +209,7 @@ module _ (digest_of : List ℕ → List ℕ) (room_stays : RoomStays) (w : World
       shown = sym (ap (λ o. option_map_or (λ (a : Flat). a.out) (option_and_then (λ i. alone i [] 0) (option_map flat_image o)) []) names.image_is
           ∙ ap (λ o. option_map_or (λ (a : Flat). a.out) o []) alone_is);
       pages = λ live. cc;
-      start = λ idle'. refl;
+      start = λ not_live alive. refl;
     }
 
     putting : IsPutting w.setup (written_page w) r e.0 image pages 0
@@ -292,8 +295,8 @@ module _ (digest_of : List ℕ → List ℕ) (room_stays : RoomStays) (w : World
       contexts = λ other f differs is. ap (λ (x : Enclave). x.context) (change.others f (not_under_way other f is));
       harts = refl;
       tlbs = λ other differs. refl;
-      none_removed = removal_so digest_of w k hart Idle idle refl;
-      removes_none = ap isnt_removing moves.under_change.here;
+      waited_none = ap isnt_waiting idle;
+      waits_none = ap isnt_waiting moves.under_change.here;
       entries = entries_stay digest_of w k w.ctl (enclave_at enclaves') owners' s' spaces hart;
       walk = subst (λ u. WalkingStands w.ctl (IsFresh w.setup s' w.fences hart) (walking w.setup.tables (enclave_at enclaves') (hart_line w hart) u)) (sym moves.under_change.here)
           (subst (λ l. WalkingStands w.ctl (IsFresh w.setup s' w.fences hart) (walking w.setup.tables (enclave_at enclaves') l (Putting 0))) (sym here) tt);
@@ -305,7 +308,7 @@ module _ (digest_of : List ℕ → List ℕ) (room_stays : RoomStays) (w : World
       sizes = record {
         zones = refl;
         slots = refl;
-        pages = length_given w.owners (taker e.0 false) pages;
+        pages = length-given_to w.owners (taker e.0 false) pages;
         guarded = λ page is. stays page owner_is.Guard (λ same. cc) is;
         numbers = change.size;
       };

@@ -9,13 +9,11 @@ use Rattle.std.proofs.lemmas.List.Sums.{list_all-from_AllPass, prefix_len_passes
 use Rattle.std.proofs.lemmas.Option.{slice_get_past}
 use Rattle.pl_base.specs.declared.actor.Actor.{Actor}
 use Rattle.pl_base.specs.declared.actor.Actor.TheVariants.{Hart, Ack, Attacker}
-use Rattle.pl_base.specs.declared.address.Va.{Va}
 use Rattle.pl_base.specs.declared.number.HartSet.{HartSet}
 use Rattle.mon_enclave.specs.Records.{enclave_at}
 use Rattle.mon_fence.proofs.Needs.{posted_there}
 use Rattle.mon_fence.specs.declared.fences.Fence.{Fence}
 use Rattle.mon_fence.specs.Fences.{fence_of}
-use Rattle.mon_tables.specs.Space.{Mapping}
 use Rattle.pl_history.specs.declared.line.AttackLine.{AttackLine}
 use Rattle.pl_history.specs.declared.line.AttackLine.TheVariants as attack
 use Rattle.pl_history.specs.declared.line.Line.{Line}
@@ -28,17 +26,18 @@ use Rattle.world_machine.specs.declared.turned.Finished.TheVariants as finished
 use Rattle.world_machine.specs.declared.turned.Turned.TheVariants as turned
 use Rattle.world_machine.specs.declared.turned.Wait.TheVariants as wait
 use Rattle.world_machine.specs.declared.under.Under.{Under}
-use Rattle.world_machine.specs.declared.under.Under.TheVariants.{Idle, Putting, Removing, Running, Seeking}
+use Rattle.world_machine.specs.declared.under.Under.TheVariants.{Idle, Seeking, Removing, Destroying, Putting, Running}
 use Rattle.world_machine.specs.Acknowledging.{owed}
 use Rattle.world_machine.specs.Endings.{EndsBy, IsAttackBlocked, IsBlocked, IsStuck}
-use Rattle.world_machine.specs.FencesStand.{FenceStands, RemovalStands, removals_by}
-use Rattle.world_machine.specs.HostMapping.{lacked_by}
+use Rattle.world_machine.specs.GivingBack.{ends_destroy}
+use Rattle.world_machine.specs.HostMapping.{ends_unmap, lacked_by}
 use Rattle.world_machine.specs.LinesUnderWay.{LineUnderWay}
 use Rattle.world_machine.specs.Runs.{acknowledgements, all_answered, hart_turns, is_still, nobody_moves, over_of}
 use Rattle.world_machine.specs.Standing.{CollisionStands, Kept, state_of, written_page}
-use Rattle.world_machine.specs.Steps.{ack_turn, actor_turn, attacker_turn, due, hart_turn, moves, rests, turned_by, unmap_turn}
+use Rattle.world_machine.specs.Steps.{ack_turn, actor_turn, attacker_turn, due, hart_turn, moves, rests, turned_by, waiting_turn}
 use Rattle.world_machine.specs.Unbuilt.{first_unbuilt_of, is_built, joined}
 use Rattle.world_machine.specs.Worlds.{CollisionData, Event, WorldData, answered_at, hart_line, under_at}
+use Rattle.world_machine.proofs.FenceTurns.{fence_turn}
 use Rattle.world_machine.proofs.NobodyOwed.{nobody_lacking, none_below}
 use Rattle.world_machine.proofs.SetupFacts.{each_holds}
 
@@ -74,18 +73,12 @@ built_in : (script : Option (List Line)) (at : ℕ) (line : Line) → ((lines : 
 built_in None at line all here = cc
 built_in (Some lines) at line all here = each_holds is_built lines at line (all lines refl) here
 
-line_built : (setup : SetupParts) (hart at : ℕ) (line : Line) → first_unbuilt_of setup ≡ None → slice_get (script_of setup hart) at ≡ Some line → is_built line ≡ true
+pub line_built : (setup : SetupParts) (hart at : ℕ) (line : Line) → first_unbuilt_of setup ≡ None → slice_get (script_of setup hart) at ≡ Some line → is_built line ≡ true
 line_built setup hart at line none here =
     built_in (slice_get setup.lines hart) at line
     (λ lines is. each_holds (list_all is_built) setup.lines hart lines (each_joined is_built setup.lines (all_built (joined setup.lines) none)) is) here
 
 -- ---- fences
-
--- who takes a mapping away has begun an `unmap`
-pub removal_line : (line : Option Line) (under : Under) (removed : List Mapping) (m : Mapping) → RemovalStands line under removed → removed ≡ m ∷ []
-    → (va : Va) × (page : ℕ) × (line ≡ Some (Unmap va)) × (under ≡ Removing page)
-removal_line (Some (Unmap va)) (Removing page) removed m stands is = (va, page, refl, refl)
-removal_line line under removed m stands is = let never : [] ≡ m ∷ [] = sym stands ∙ is in cc
 
 none_owed : (w : WorldData) (hart : ℕ) (o : Option ℕ) → is_still (turned_by (ack_turn w hart o)) ≡ true → o ≡ None
 none_owed w hart None still = refl
@@ -125,85 +118,95 @@ module _ (digest_of : List ℕ → List ℕ) (w : WorldData) (k : Kept digest_of
     abbrev Still : Line → Under → Type 0
     Still line under = is_still (turned_by (due digest_of w hart [] line under)) ≡ true
 
-    -- a removal ends, or waits for acknowledgements
-    ends : (page : ℕ) (o : Option HartSet) → is_still (turned_by (unmap_turn w hart page o)) ≡ true → ⊥
-    ends page None still = false≢true still
-    ends page (Some harts) still = false≢true still
+    -- a line that posted a fence ends, or waits for acknowledgements
+    ends : (ended : WorldData) (o : Option HartSet) → is_still (turned_by (waiting_turn ended o)) ≡ true → ⊥
+    ends ended None still = false≢true still
+    ends ended (Some harts) still = false≢true still
 
     blocked : (line : Line) (under : Under) → under_at w.under hart ≡ under → is_built line ≡ true → Standing line under → Still line under → IsBlocked w hart line
     blocked (Load va) Idle so_far built standing still = absurd (false≢true still)
     blocked (Load va) (Seeking walk) so_far built standing still = absurd (false≢true still)
     blocked (Load va) (Removing page) so_far built standing still = absurd standing
+    blocked (Load va) Destroying so_far built standing still = absurd standing
     blocked (Load va) (Putting done) so_far built standing still = absurd standing
     blocked (Load va) (Running micro done) so_far built standing still = absurd standing
     blocked (Store va word) Idle so_far built standing still = absurd (false≢true still)
     blocked (Store va word) (Seeking walk) so_far built standing still = absurd (false≢true still)
     blocked (Store va word) (Removing page) so_far built standing still = absurd standing
+    blocked (Store va word) Destroying so_far built standing still = absurd standing
     blocked (Store va word) (Putting done) so_far built standing still = absurd standing
     blocked (Store va word) (Running micro done) so_far built standing still = absurd standing
     blocked (Map va page perms) Idle so_far built standing still = absurd (false≢true still)
     blocked (Map va page perms) (Seeking walk) so_far built standing still = absurd standing
     blocked (Map va page perms) (Removing from) so_far built standing still = absurd standing
+    blocked (Map va page perms) Destroying so_far built standing still = absurd standing
     blocked (Map va page perms) (Putting done) so_far built standing still = absurd standing
     blocked (Map va page perms) (Running micro done) so_far built standing still = absurd standing
     blocked (Unmap va) Idle so_far built standing still = absurd (false≢true still)
     blocked (Unmap va) (Seeking walk) so_far built standing still = absurd standing
-    blocked (Unmap va) (Removing page) so_far built standing still = absurd (ends page (lacked_by w hart) still)
+    blocked (Unmap va) (Removing page) so_far built standing still = absurd (ends (ends_unmap w hart page) (lacked_by w hart) still)
+    blocked (Unmap va) Destroying so_far built standing still = absurd standing
     blocked (Unmap va) (Putting done) so_far built standing still = absurd standing
     blocked (Unmap va) (Running micro done) so_far built standing still = absurd standing
     blocked (Create e image pages) Idle so_far built standing still = absurd (false≢true still)
     blocked (Create e image pages) (Seeking walk) so_far built standing still = absurd standing
     blocked (Create e image pages) (Removing page) so_far built standing still = absurd standing
+    blocked (Create e image pages) Destroying so_far built standing still = absurd standing
     blocked (Create e image pages) (Putting done) so_far built standing still = absurd (false≢true still)
     blocked (Create e image pages) (Running micro done) so_far built standing still = absurd standing
     blocked (Run e budget) Idle so_far built standing still = absurd (false≢true still)
     blocked (Run e budget) (Seeking walk) so_far built standing still = absurd standing
     blocked (Run e budget) (Removing page) so_far built standing still = absurd standing
+    blocked (Run e budget) Destroying so_far built standing still = absurd standing
     blocked (Run e budget) (Putting done) so_far built standing still = absurd standing
     blocked (Run e budget) (Running micro done) so_far built standing still = absurd (false≢true still)
     blocked (Resume e budget) Idle so_far built standing still = absurd (false≢true still)
     blocked (Resume e budget) (Seeking walk) so_far built standing still = absurd standing
     blocked (Resume e budget) (Removing page) so_far built standing still = absurd standing
+    blocked (Resume e budget) Destroying so_far built standing still = absurd standing
     blocked (Resume e budget) (Putting done) so_far built standing still = absurd standing
     blocked (Resume e budget) (Running micro done) so_far built standing still = absurd (false≢true still)
     blocked (Send e word) Idle so_far built standing still = absurd (false≢true still)
     blocked (Send e word) (Seeking walk) so_far built standing still = absurd standing
     blocked (Send e word) (Removing page) so_far built standing still = absurd standing
+    blocked (Send e word) Destroying so_far built standing still = absurd standing
     blocked (Send e word) (Putting done) so_far built standing still = absurd standing
     blocked (Send e word) (Running micro done) so_far built standing still = absurd standing
     blocked (Take e) Idle so_far built standing still = absurd (false≢true still)
     blocked (Take e) (Seeking walk) so_far built standing still = absurd standing
     blocked (Take e) (Removing page) so_far built standing still = absurd standing
+    blocked (Take e) Destroying so_far built standing still = absurd standing
     blocked (Take e) (Putting done) so_far built standing still = absurd standing
     blocked (Take e) (Running micro done) so_far built standing still = absurd standing
     blocked (After actor count) Idle so_far built standing still =
         record { actor = actor; count = count; line_is = refl; idle = so_far; few = waiting count (answered_at w.answered actor) _ actor (leb count (answered_at w.answered actor)) refl still }
     blocked (After actor count) (Seeking walk) so_far built standing still = absurd standing
     blocked (After actor count) (Removing page) so_far built standing still = absurd standing
+    blocked (After actor count) Destroying so_far built standing still = absurd standing
     blocked (After actor count) (Putting done) so_far built standing still = absurd standing
     blocked (After actor count) (Running micro done) so_far built standing still = absurd standing
     blocked (Shadow e image pages) under so_far built standing still = absurd (false≢true built)
     blocked (Fork s e pages) under so_far built standing still = absurd (false≢true built)
     blocked (Grant e page) under so_far built standing still = absurd (false≢true built)
-    blocked (Destroy e) under so_far built standing still = absurd (false≢true built)
+    blocked (Destroy e) Idle so_far built standing still = absurd (false≢true still)
+    blocked (Destroy e) (Seeking walk) so_far built standing still = absurd standing
+    blocked (Destroy e) (Removing page) so_far built standing still = absurd standing
+    blocked (Destroy e) Destroying so_far built standing still = absurd (ends (ends_destroy w hart e) (lacked_by w hart) still)
+    blocked (Destroy e) (Putting done) so_far built standing still = absurd standing
+    blocked (Destroy e) (Running micro done) so_far built standing still = absurd standing
     blocked (Drop s) under so_far built standing still = absurd (false≢true built)
 
-    -- a hart with a fence takes a mapping away, and that would end
+    -- a hart with a fence ends its line, or waits
     no_fence : lacked_by w hart ≡ None → (hart < length w.fences → is_still (turned_by (hart_turn digest_of w hart [] (hart_line w hart))) ≡ true) → fence_of w.fences hart ≡ None
     no_fence nobody still = by_fence (fence_of w.fences hart) refl
       where
-        removed : List Mapping
-        removed = removals_by (state_of w).removals hart
-
         by_fence : (o : Option Fence) → fence_of w.fences hart ≡ o → fence_of w.fences hart ≡ None
         by_fence None is = is
         by_fence (Some fence) is =
-            let agrees = subst (λ o. FenceStands o removed) is (k.stands.translations.fences_stand.each hart) in
-            let line = removal_line (hart_line w hart) (under_at w.under hart) removed agrees.0 (k.stands.translations.removals hart) agrees.1 in
-            absurd (ends line.1 (lacked_by w hart)
-            (subst (λ u. is_still (turned_by (due digest_of w hart [] (Unmap line.0) u)) ≡ true) line.3
-            (subst (λ l. is_still (turned_by (hart_turn digest_of w hart [] l)) ≡ true) line.2
-            (still (posted_there (λ f. Unit {0}) w.fences hart (subst (λ o. IsSomeAnd o (λ f. Unit {0})) (sym is) tt))))))
+            let turn = fence_turn digest_of w k hart [] fence is in
+            absurd (ends turn.0 (lacked_by w hart)
+            (subst (λ t. is_still (turned_by t) ≡ true) turn.1
+            (still (posted_there (λ f. Unit {0}) w.fences hart (subst (λ o. IsSomeAnd o (λ f. Unit {0})) (sym is) tt)))))
 
     hart_blocked : (line : Line) → hart_line w hart ≡ Some line → is_still (turned_by (hart_turn digest_of w hart [] (hart_line w hart))) ≡ true → IsBlocked w hart line
     hart_blocked line here still =

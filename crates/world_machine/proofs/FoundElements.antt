@@ -2,7 +2,7 @@
 use Rattle.std.proofs.Common.{◌≡◌, ℕ, suc, ◌+◌, ◌≤◌, Bool, true, false, cond, not, List, [], ◌∷◌, length, get_or, filter, find, count_by, Some, None, refl, sym, ap, ◌∙◌, arith, inl, inr}
 use Rattle.std.specs.List.{All}
 use Rattle.std.proofs.lemmas.Bool.{cases_Bool, cond-true, cond-false}
-use Rattle.std.proofs.lemmas.List.Elements.{All-cons, All-filter, All-nil, filter_passes}
+use Rattle.std.proofs.lemmas.List.Elements.{All-cons, All-filter, All-head, All-nil, All-tail, filter_passes}
 use Rattle.std.proofs.lemmas.List.Filters.{sum_by-filter_both}
 use Rattle.std.proofs.lemmas.List.Sums.{length-filter, sum_by-cons}
 
@@ -65,6 +65,15 @@ unfound_each test (x ∷ xs) none = elim (cases_Bool (test x)) [
   | inl passes ↦ (let clash : Some x ≡ None = rw passes at none in cc)
   | inr fails ↦ All-cons (λ y. test y ≡ false) x xs fails (unfound_each test xs (rw fails at none))
 ]
+
+-- where none passes, none is counted
+pub none_counted : {A : Type 0} (test : A → Bool) (xs : List A) → All (λ x. test x ≡ false) xs → count_by test xs ≡ 0
+none_counted test [] fail = refl
+none_counted test (x ∷ xs) fail =
+    let more = sum_by-cons (λ y. cond {A = ℕ} (test y) 1 0) x xs in
+    let zero_here = ap (λ b. cond {A = ℕ} b 1 0) (All-head (λ y. test y ≡ false) x xs fail) in
+    let later : count_by test xs ≡ 0 = none_counted test xs (All-tail (λ y. test y ≡ false) x xs fail) in
+    omega (arith, more, zero_here, later)
 
 -- what passes a test is counted by a weaker one, among what passes another weaker one
 pub counted_among : {A : Type 0} (test keep other : A → Bool) → ((x : A) → test x ≡ true → (keep x ≡ true) × (other x ≡ true)) → (xs : List A) → count_by test xs ≤ count_by other (filter keep xs)

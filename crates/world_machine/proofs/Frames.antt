@@ -21,11 +21,11 @@ use Rattle.mon_life.specs.Pages.{PagePut, page_put_at}
 use Rattle.mon_owner.specs.declared.owners.Owner.{Owner}
 use Rattle.mon_tables.specs.Tables.{table_number}
 use Rattle.pl_history.specs.declared.line.Line.{Line}
-use Rattle.pl_history.specs.declared.line.Line.TheVariants.{Load, Store, Unmap, Create, Run, Resume}
+use Rattle.pl_history.specs.declared.line.Line.TheVariants.{Load, Store, Unmap, Create, Run, Resume, Destroy}
 use Rattle.pl_history.specs.declared.setup.SetupParts.{SetupParts}
 use Rattle.pl_history.specs.Monitor.{Number}
 use Rattle.world_machine.specs.declared.under.Under.{Under}
-use Rattle.world_machine.specs.declared.under.Under.TheVariants.{Idle, Seeking, Removing, Putting, Running}
+use Rattle.world_machine.specs.declared.under.Under.TheVariants.{Idle, Seeking, Removing, Destroying, Putting, Running}
 use Rattle.world_machine.specs.EnclavesAgree.{EnclaveStands, EnclavesAgree, IsOwn}
 use Rattle.world_machine.specs.LinesUnderWay.{InstructionStands, IsAccessed, IsPutting, IsRunning, LineUnderWay, MakesAccess, access_of, number_under_way}
 use Rattle.world_machine.specs.Making.{image_of}
@@ -101,6 +101,8 @@ module _ (setup : SetupParts) (e : ℕ) (rec rec' : ℕ → Enclave) (number num
     apart = k.apart;
     owned = still_own f (numbers_of r.pages) other k.owned;
     parent = k.parent;
+    spares = k.spares;
+    given = k.given;
     now = k.now;
     alone_is = k.alone_is;
     context = k.context;
@@ -191,4 +193,5 @@ module _ (setup : SetupParts) (e : ℕ) (rec rec' : ℕ → Enclave) (number num
     line_frame hart (Some (Create f image pages)) (Putting done) apart k = putting_there f.0 image pages done k (apart f.0 refl)
     line_frame hart (Some (Run f budget)) (Running micro count) apart k = running_there f.0 hart budget count micro k (apart f.0 refl)
     line_frame hart (Some (Resume f budget)) (Running micro count) apart k = running_there f.0 hart budget count micro k (apart f.0 refl)
+    line_frame hart (Some (Destroy f)) Destroying apart k = ap (λ (r : Enclave). r.state) (frame.records f.0 (apart f.0 refl)) ∙ k
     line_frame hart line under apart k = elim k [ ]

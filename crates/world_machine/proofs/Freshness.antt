@@ -1,8 +1,13 @@
--- Which mappings of the host a hart may still use when mappings come and go, and when fences are acknowledged.
-use Rattle.std.proofs.Common.{◌≡◌, ◌≢◌, ℕ, ◌<◌, ◌≤◌, eqb, ltb, true, false, List, [], ◌∷◌, ◌++◌, length, filter, not, Option, Some, None, option_map, slice_set, refl, sym, ap, ◌∙◌, subst, arith, inl, inr}
-use Rattle.std.proofs.lemmas.Bool.{cases_Bool, cond-false, eqb-true, eqb-false, false≢true, lt-ltb, ne_eqb}
+-- Which mappings a hart may still use when mappings of the host come and go, and when fences are acknowledged.
+use Rattle.std.proofs.Common.{◌≡◌, ◌≢◌, ℕ, ◌+◌, ◌<◌, ◌≤◌, eqb, ltb, ◌&&◌, Bool, true, false, List, [], ◌∷◌, ◌++◌, length, filter, not, Option, Some, None, option_map, slice_set, refl, sym, ap, ◌∙◌, subst, arith, inl, inr}
+use Rattle.std.proofs.lemmas.Bool.{cases_Bool, cond-false, eq-eqb, eqb-true, eqb-false, false≢true, lt-ltb, ne_eqb, not-true}
 use Rattle.std.proofs.lemmas.Nat.Bits.{bit_at-zero}
 use Rattle.std.specs.Int.{bit_at}
+use Rattle.std.specs.List.{All}
+use Rattle.pl_base.specs.declared.address.Vpn.{Vpn}
+use Rattle.pl_base.specs.declared.number.Space.{Space}
+use Rattle.rv_tlb.specs.declared.tlb.TlbEntry.{TlbEntry}
+use Rattle.rv_tlb.specs.Tlb.{is_in, is_of}
 use Rattle.mon_fence.specs.declared.fences.Fence.{Fence}
 use Rattle.mon_fence.specs.Fences.{AreFences, acked, fence_of, lacking, needs, posted, without_need}
 use Rattle.mon_fence.proofs.HartSets.{has_hart-without_other}
@@ -11,12 +16,45 @@ use Rattle.mon_host.specs.Leaves.{host_space}
 use Rattle.mon_tables.specs.Space.{Mapping, mapping_at, without_vpn}
 use Rattle.mon_tables.proofs.Mappings.{mapping_at-added_other, mapping_at-without_other, none_some, same_Some}
 use Rattle.pl_history.specs.Monitor.{Monitor, Removal}
-use Rattle.world_machine.specs.FencesStand.{FenceStands, IsOpen, removals_by}
-use Rattle.world_machine.specs.TranslationsAgree.{MayUse}
+use Rattle.world_machine.specs.Acknowledging.{without_covered}
+use Rattle.world_machine.specs.FencesStand.{FenceStands, IsLeaving, IsOfHost, IsOpen, removals_by}
+use Rattle.world_machine.specs.TranslationsAgree.{MayUse, entry_of}
+use Rattle.world_machine.proofs.FoundElements.{filtered_all}
+use Rattle.world_machine.proofs.Leaving.{number_not_host, same_fence}
 use Rattle.world_machine.proofs.Removals.{removals_by-begun, removals_by-begun_other, removals_by-ended_other}
 
 nil_cons : (m : Mapping) (ms : List Mapping) → [] ≡ m ∷ ms → ⊥
 nil_cons m ms is = cc
+
+one_of : (a b : Mapping) → a ∷ [] ≡ b ∷ [] → a ≡ b
+one_of a b same = cc
+
+-- a fence of this page of a space, or of the whole space, covers the translation
+abbrev pub is_covered : Space → Option Vpn → TlbEntry → Bool
+is_covered space None entry = is_in space entry
+is_covered space (Some vpn) entry = is_of space vpn entry
+
+-- and none of another space
+pub other_uncovered : (space : Space) (vpn : Option Vpn) (entry : TlbEntry) → entry.space.0 ≢ space.0 → is_covered space vpn entry ≡ false
+other_uncovered space None entry other = ne_eqb entry.space.0 space.0 other
+other_uncovered space (Some vpn) entry other = ap (λ b. b && eqb entry.vpn.0 vpn.0) (ne_eqb entry.space.0 space.0 other)
+
+-- what follows for those that a fence doesn't cover holds of all that are left
+pub left_all : (P Q : TlbEntry → Type 0) (space : Space) (vpn : Option Vpn) → ((entry : TlbEntry) → is_covered space vpn entry ≡ false → P entry → Q entry) → (entries : List TlbEntry)
+    → All P entries → All Q (without_covered entries space vpn)
+left_all P Q space None follows entries all = filtered_all (λ entry. not (is_in space entry)) P Q (λ entry passed. follows entry (not-true (is_in space entry) passed)) entries all
+left_all P Q space (Some vpn) follows entries all =
+    filtered_all (λ entry. not (is_of space vpn entry)) P Q (λ entry passed. follows entry (not-true (is_of space vpn entry) passed)) entries all
+
+-- a number that is leaving is so while another fence changes
+pub leaving_other : (fences : List (Option Fence)) (changed : ℕ) (now : Option Fence) (hart e : ℕ) (leaving : IsLeaving fences hart e) → leaving.poster ≢ changed → IsLeaving (slice_set fences changed now) hart e
+leaving_other fences changed now hart e leaving other = record {
+  poster = leaving.poster;
+  fence = leaving.fence;
+  is = fence_of-set_other fences changed leaving.poster now other ∙ leaving.is;
+  of_number = leaving.of_number;
+  needed = ap (λ f. needs f hart) (fence_of-set_other fences changed leaving.poster now other) ∙ leaving.needed;
+}
 
 -- ---- a mapping is added
 
@@ -79,7 +117,7 @@ module _ (s s' : Monitor) (fences : List (Option Fence)) (poster : ℕ) (gone : 
 
 -- ---- a removal ends
 
-lacks_none : (fence : Option Fence) (hart : ℕ) → lacking fence ≡ None → needs fence hart ≡ false
+pub lacks_none : (fence : Option Fence) (hart : ℕ) → lacking fence ≡ None → needs fence hart ≡ false
 lacks_none None hart is = refl
 lacks_none (Some fence) hart is = elim (cases_Bool (eqb fence.need.0 0)) [
   | inl zero ↦ (let none : fence.need.0 ≡ 0 = eqb-true fence.need.0 0 zero in ap (λ n. eqb (bit_at n hart) 1) none ∙ empty hart)
@@ -127,12 +165,59 @@ module _ (fences : List (Option Fence)) (hart requester : ℕ) (fence : Fence) (
   acked_used s other m inside differ (inr opened) = inr (record { poster = opened.poster; removal = opened.removal; needed = needs_still other opened.poster inside differ opened.needed })
 
   -- the hart itself may use what the fence isn't of
-  pub acked_used_own : (s : Monitor) (m : Mapping) → FenceStands (Some fence) (removals_by s.removals requester) → fence.vpn ≢ Some (record { 0 = m.vpn }) → MayUse s fences hart m → MayUse s after hart m
+  -- the hart itself may use what the fence doesn't cover
+  pub acked_used_own : (s : Monitor) (m : Mapping) → FenceStands (Some fence) (removals_by s.removals requester) → is_covered fence.space fence.vpn (entry_of host_space m) ≡ false
+      → MayUse s fences hart m → MayUse s after hart m
   acked_used_own s m agrees apart (inl at) = inl at
   acked_used_own s m agrees apart (inr opened) =
-      let other : opened.poster ≢ requester = λ same. apart (agrees.3 ∙ ap (λ (x : Mapping). Some (record { 0 = x.vpn }))
-      (one_of agrees.0 m (sym agrees.1 ∙ ap (removals_by s.removals) (sym same) ∙ opened.removal))) in
+      let other : opened.poster ≢ requester = λ same. covers_it agrees (sym (ap (removals_by s.removals) same) ∙ opened.removal) in
       inr (record { poster = opened.poster; removal = opened.removal; needed = ap (λ f. needs f hart) (fence_of-set_other fences requester opened.poster _ other) ∙ opened.needed })
     where
-      one_of : (a b : Mapping) → a ∷ [] ≡ b ∷ [] → a ≡ b
-      one_of a b same = cc
+      covers_it : FenceStands (Some fence) (removals_by s.removals requester) → removals_by s.removals requester ≡ m ∷ [] → ⊥
+      covers_it (inr (e, of_number, none)) removal = nil_cons m [] (sym none ∙ removal)
+      covers_it (inl (gone, removed, space, vpn)) removal =
+          let same : gone ≡ m = one_of gone m (sym removed ∙ removal) in
+          false≢true (sym apart ∙ (λ i. is_covered (space i) (vpn i) (entry_of host_space m)) ∙ eq-eqb m.vpn gone.vpn (ap (λ (x : Mapping). x.vpn) (sym same)))
+
+  -- a number that leaves another hart, or of another space, is leaving still
+  pub acked_leaving : (other e : ℕ) → other < length fences → other ≢ hart → IsLeaving fences other e → IsLeaving after other e
+  acked_leaving other e inside differ leaving = still (needs_still other leaving.poster inside differ leaving.needed)
+    where
+      still : needs (fence_of after leaving.poster) other ≡ true → IsLeaving after other e
+      still needed = elim (cases_Bool (eqb leaving.poster requester)) [
+        | inr apart ↦ record {
+          poster = leaving.poster;
+          fence = leaving.fence;
+          is = fence_of-set_other fences requester leaving.poster _ (eqb-false leaving.poster requester apart) ∙ leaving.is;
+          of_number = leaving.of_number;
+          needed = needed;
+        }
+        | inl same ↦
+            let p : leaving.poster ≡ requester = eqb-true leaving.poster requester same in
+            let fence_is : leaving.fence ≡ fence = same_fence leaving.fence fence (sym leaving.is ∙ ap (fence_of fences) p ∙ is) in
+            record {
+              poster = leaving.poster;
+              fence = without_need hart fence;
+              is = ap (fence_of after) p ∙ acked_same;
+              of_number = (sym (ap (λ (x : Fence). x.space) fence_is) ∙ leaving.of_number.0, sym (ap (λ (x : Fence). x.vpn) fence_is) ∙ leaving.of_number.1);
+              needed = needed;
+            }
+      ]
+
+  pub acked_leaving_own : (e : ℕ) (m : Mapping) → is_covered fence.space fence.vpn (entry_of (record { 0 = e + 1 }) m) ≡ false → IsLeaving fences hart e → IsLeaving after hart e
+  acked_leaving_own e m apart leaving =
+      let other : leaving.poster ≢ requester = λ same. covers_it (same_fence leaving.fence fence (sym leaving.is ∙ ap (fence_of fences) same ∙ is)) in
+      leaving_other fences requester _ hart e leaving other
+    where
+      covers_it : leaving.fence ≡ fence → ⊥
+      covers_it same =
+          let space : fence.space ≡ record { 0 = e + 1 } = sym (ap (λ (x : Fence). x.space) same) ∙ leaving.of_number.0 in
+          let whole : fence.vpn ≡ None = sym (ap (λ (x : Fence). x.vpn) same) ∙ leaving.of_number.1 in
+          false≢true (sym apart ∙ (λ i. is_covered (space i) (whole i) (entry_of (record { 0 = e + 1 }) m)) ∙ eq-eqb (e + 1) (e + 1) refl)
+
+-- ---- the fence of a hart changes that has none of a number
+
+module _ (fences : List (Option Fence)) (poster : ℕ) (now : Option Fence) (of_host : IsOfHost (fence_of fences poster)) where
+  pub leaving_still : (hart e : ℕ) → IsLeaving fences hart e → IsLeaving (slice_set fences poster now) hart e
+  leaving_still hart e leaving =
+      leaving_other fences poster now hart e leaving (λ same. number_not_host leaving.fence e leaving.of_number (subst IsOfHost (ap (fence_of fences) (sym same) ∙ leaving.is) of_host))

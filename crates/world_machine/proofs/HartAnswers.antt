@@ -5,6 +5,7 @@ use Rattle.pl_base.specs.declared.access.Kind.{Kind}
 use Rattle.pl_base.specs.declared.access.Kind.TheVariants as kind
 use Rattle.pl_base.specs.declared.address.Pa.{Pa}
 use Rattle.pl_base.specs.declared.address.Va.{Va}
+use Rattle.pl_base.specs.declared.number.EncNo.{EncNo}
 use Rattle.pl_base.specs.declared.perms.Perms.{Perms}
 use Rattle.pl_base.specs.declared.place.Place.{Place}
 use Rattle.pl_base.specs.declared.refusal.No.{No}
@@ -20,6 +21,7 @@ use Rattle.mon_host.specs.Leaves.{HostEvent}
 use Rattle.mon_host.specs.Mapping.{map_of}
 use Rattle.mon_host.specs.Unmapping.{unmap_begun}
 use Rattle.mon_owner.specs.declared.owners.Owner.{Owner}
+use Rattle.mon_life.specs.Destroying.{DestroyBegun, destroy_begun}
 use Rattle.mon_life.specs.Making.{CreateBegun, create_begun}
 use Rattle.mon_life.specs.Putting.{CreatePut, create_put}
 use Rattle.mon_life.specs.Running.{RunBegun, run_begun}
@@ -42,6 +44,7 @@ use Rattle.world_machine.specs.declared.under.Under.TheVariants.{Putting}
 use Rattle.world_machine.specs.Acknowledging.{acknowledged}
 use Rattle.world_machine.specs.Adding.{AddsAtMostOne}
 use Rattle.world_machine.specs.Answering.{answers, decided, goes_on, quiet}
+use Rattle.world_machine.specs.GivingBack.{begins_destroy, destroys_unless}
 use Rattle.world_machine.specs.HostAccessing.{WordAccess, accesses_host, begins_access, host_faults, host_learns, host_request, kind_of, loads, made, reaches_host, stores}
 use Rattle.world_machine.specs.HostMapping.{begins_unmap, mapped, maps, unmapped}
 use Rattle.world_machine.specs.Making.{begin_create, begins_unless, image_of, put_next}
@@ -168,6 +171,17 @@ module _ (digest_of : List ℕ → List ℕ) (w : WorldData) (hart : ℕ) where
       let left : WorldData = record w { ctl = event.step.after.ctl; fences = event.rest } in
       decided_adds w hart left (unmapped hart va left) (host_faults hart left) event.step.outcome refl refl (unmapped_adds va event.step.after.ctl event.rest)
       (λ place. answer_adds (answer_is.No (refused.Fault place)) _ refl refl)
+
+  -- a number that is given back
+  destroys_adds : (o : Option No) (enclaves : List Enclave) (fences : List (Option Fence)) (e : EncNo)
+      → Adds w hart (destroys_unless o (record w { enclaves = enclaves; fences = fences }) hart e)
+  destroys_adds (Some cause) enclaves fences e = answer_adds (answer_is.No cause) _ refl refl
+  destroys_adds None enclaves fences e = answer_adds answer_is.Begun _ refl refl
+
+  pub begins_destroy_adds : (e : EncNo) → Adds w hart (begins_destroy w hart e).world
+  begins_destroy_adds e =
+      let begun : DestroyBegun = destroy_begun w.enclaves w.fences hart e in
+      destroys_adds begun.refusal begun.enclaves begun.fences e
 
   -- an acknowledgement answers nothing
   pub acknowledged_adds : (requester : ℕ) (fence : Option Fence) → Adds w hart (acknowledged w hart requester fence)

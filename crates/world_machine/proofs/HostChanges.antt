@@ -1,13 +1,13 @@
 -- What holds of translations, fences and walks still holds after an event of a hart with a line of the host.
-use Rattle.std.proofs.Common.{◌≡◌, ◌≢◌, ℕ, ◌<◌, ◌≤◌, true, List, [], length, unwrap_or, Option, refl, sym, ap, ◌∙◌, subst, arith, inl, inr}
+use Rattle.std.proofs.Common.{◌≡◌, ◌≢◌, ℕ, ◌<◌, ◌≤◌, true, List, [], length, Option, refl, sym, ap, ◌∙◌, subst, arith, inl, inr}
 use Rattle.std.specs.List.{All}
 use Rattle.std.proofs.lemmas.Bool.{cases_lt}
 use Rattle.std.proofs.lemmas.List.Elements.{All-nil, All-weaker}
-use Rattle.std.proofs.lemmas.Option.{slice_get_past}
 use Rattle.rv_tlb.specs.declared.tlb.TlbEntry.{TlbEntry}
 use Rattle.mem_ctl.specs.Data.{CtlData}
 use Rattle.mon_enclave.specs.Records.{enclave_at}
 use Rattle.mon_fence.specs.declared.fences.Fence.{Fence}
+use Rattle.mon_fence.specs.Fences.{fence_of}
 use Rattle.mon_host.specs.Laws.{mirror_words}
 use Rattle.mon_life.specs.Pages.{leaves_of}
 use Rattle.mon_owner.specs.declared.owners.Owner.{Owner}
@@ -20,18 +20,17 @@ use Rattle.pl_history.specs.declared.line.Line.{Line}
 use Rattle.pl_history.specs.declared.setup.SetupParts.{SetupParts}
 use Rattle.pl_history.specs.Monitor.{Monitor, Number}
 use Rattle.world_machine.specs.declared.under.Under.{Under}
-use Rattle.world_machine.specs.declared.under.Under.TheVariants.{Idle}
-use Rattle.world_machine.specs.FencesStand.{FencesStand, RemovalStands, removals_by}
+use Rattle.world_machine.specs.FencesStand.{FencesStand, GivingStands, IsLeaving, RemovalStands, removals_by}
 use Rattle.world_machine.specs.Making.{image_of}
 use Rattle.world_machine.specs.Standing.{Kept, state_of, written_page}
-use Rattle.world_machine.specs.TranslationsAgree.{IsFresh, MayUse, TranslationsStand, WalkingStands, space_of, walking}
+use Rattle.world_machine.specs.TranslationsAgree.{IsFresh, MayUse, MayUseNumber, TranslationsStand, WalkingStands, space_of, walking}
 use Rattle.world_machine.specs.Worlds.{WorldData, hart_line, tlb_at, under_at}
 use Rattle.world_machine.proofs.HostRows.{HostFrame}
 use Rattle.world_machine.proofs.LineTranslations.{idle_walks, line_walks}
 use Rattle.world_machine.proofs.Lists.{everywhere}
 use Rattle.world_machine.proofs.NumberRows.{owned_within, table_guard}
 use Rattle.world_machine.proofs.TablesReached.{host_table_at, number_table_at, number_tables_stay}
-use Rattle.world_machine.proofs.TranslationFrames.{few_numbers, few_tables, live_there}
+use Rattle.world_machine.proofs.TranslationFrames.{few_numbers, few_tables, live_there, tlb_past, under_past}
 
 -- ---- translations
 
@@ -39,17 +38,17 @@ use Rattle.world_machine.proofs.TranslationFrames.{few_numbers, few_tables, live
 pub same_space : (setup : SetupParts) (s s' : Monitor) → ((e : ℕ) → s'.number e ≡ s.number e) → (e : ℕ) → space_of setup s' e ≡ space_of setup s e
 same_space setup s s' numbers e = λ i. mappings_of_number setup (λ f. numbers f i) (numbers e i) []
 
--- a fresh translation stays so, where the numbers stay, and the hart may use the mappings of the host that it might
+-- a fresh translation stays so, where the numbers stay, the hart may use the mappings of the host that it might, and what was leaving is
 pub fresh_by : (setup : SetupParts) (s s' : Monitor) (fences fences' : List (Option Fence)) (hart : ℕ) → ((e : ℕ) → s'.number e ≡ s.number e)
-    → ((m : Mapping) → MayUse s fences hart m → MayUse s' fences' hart m) → (entry : TlbEntry) → IsFresh setup s fences hart entry → IsFresh setup s' fences' hart entry
-fresh_by setup s s' fences fences' hart numbers used entry (inl host) = inl (record { mapping = host.mapping; is = host.is; fresh = used host.mapping host.fresh })
-fresh_by setup s s' fences fences' hart numbers used entry (inr number) = inr (record {
-  e = number.e;
-  mapping = number.mapping;
-  is = number.is;
-  live = ap (λ (n : Number). n.live) (numbers number.e) ∙ number.live;
-  there = ap (λ space. mapping_at space number.mapping.vpn) (same_space setup s s' numbers number.e) ∙ number.there;
-})
+    → ((m : Mapping) → MayUse s fences hart m → MayUse s' fences' hart m) → ((e : ℕ) → IsLeaving fences hart e → IsLeaving fences' hart e)
+    → (entry : TlbEntry) → IsFresh setup s fences hart entry → IsFresh setup s' fences' hart entry
+fresh_by setup s s' fences fences' hart numbers used leaves entry (inl host) = inl (record { mapping = host.mapping; is = host.is; fresh = used host.mapping host.fresh })
+fresh_by setup s s' fences fences' hart numbers used leaves entry (inr number) = inr (record { e = number.e; mapping = number.mapping; is = number.is; fresh = still number.fresh })
+  where
+    still : MayUseNumber setup s fences hart number.e number.mapping → MayUseNumber setup s' fences' hart number.e number.mapping
+    still (inl (live, there)) =
+        inl (ap (λ (n : Number). n.live) (numbers number.e) ∙ live, ap (λ space. mapping_at space number.mapping.vpn) (same_space setup s s' numbers number.e) ∙ there)
+    still (inr leaving) = inr (leaves number.e leaving)
 
 -- ---- the event
 
@@ -62,6 +61,8 @@ pub record HostChange (w : WorldData) (hart : ℕ) (ctl : CtlData) (tlbs : List 
   pub own_removals : RemovalStands (line_of hart) (under_of hart) (removals_by s'.removals hart)
   pub others : (other : ℕ) → other ≢ hart → tlb_at tlbs other ≡ tlb_at w.tlbs other
   pub used : (other : ℕ) → other < w.setup.harts → other ≢ hart → (m : Mapping) → MayUse (state_of w) w.fences other m → MayUse s' fences other m
+  pub leaving : (other : ℕ) → other < w.setup.harts → other ≢ hart → (e : ℕ) → IsLeaving w.fences other e → IsLeaving fences other e
+  pub giving : (other : ℕ) → GivingStands (line_of other) (under_of other) (fence_of fences other)
   pub own : All (IsFresh w.setup s' fences hart) (tlb_at tlbs hart)
   pub lines : (other : ℕ) → other ≢ hart → line_of other ≡ hart_line w other
   pub unders : (other : ℕ) → other ≢ hart → under_of other ≡ under_at w.under other
@@ -83,18 +84,12 @@ module _ (digest_of : List ℕ → List ℕ) (w : WorldData) (k : Kept digest_of
   module _ (hart : ℕ) (tlbs : List (List TlbEntry)) (fences : List (Option Fence)) (line_of : ℕ → Option Line) (under_of : ℕ → Under)
       (c : HostChange w hart ctl tlbs fences s' line_of under_of) where
     fresh : (other : ℕ) → other < w.setup.harts → other ≢ hart → (entry : TlbEntry) → IsFresh w.setup s w.fences other entry → IsFresh w.setup s' fences other entry
-    fresh other below differs = fresh_by w.setup s s' w.fences fences other f.numbers (c.used other below differs)
-
-    tlb_past : (other : ℕ) → w.setup.harts ≤ other → tlb_at w.tlbs other ≡ []
-    tlb_past other past = ap (λ o. unwrap_or o []) (slice_get_past w.tlbs other (let n : length w.tlbs ≡ w.setup.harts = t.harts in omega arith))
-
-    under_past : (other : ℕ) → w.setup.harts ≤ other → under_at w.under other ≡ Idle
-    under_past other past = ap (λ o. unwrap_or o Idle) (slice_get_past w.under other (let n : length w.under ≡ w.setup.harts = k.sizes.harts in omega arith))
+    fresh other below differs = fresh_by w.setup s s' w.fences fences other f.numbers (c.used other below differs) (c.leaving other below differs)
 
     entries_other : (other : ℕ) → other ≢ hart → All (IsFresh w.setup s' fences other) (tlb_at tlbs other)
     entries_other other differs = subst (All (IsFresh w.setup s' fences other)) (sym (c.others other differs)) (elim (cases_lt other w.setup.harts) [
       | inl below ↦ All-weaker (IsFresh w.setup s w.fences other) (IsFresh w.setup s' fences other) (fresh other below differs) (tlb_at w.tlbs other) (t.fresh.entries other)
-      | inr past ↦ subst (All (IsFresh w.setup s' fences other)) (sym (tlb_past other past)) (All-nil (IsFresh w.setup s' fences other))
+      | inr past ↦ subst (All (IsFresh w.setup s' fences other)) (sym (tlb_past digest_of w k other past)) (All-nil (IsFresh w.setup s' fences other))
     ])
 
     same_walk : (other : ℕ) → other < w.setup.harts → other ≢ hart
@@ -110,7 +105,7 @@ module _ (digest_of : List ℕ → List ℕ) (w : WorldData) (k : Kept digest_of
         subst (λ l. WalkingStands ctl (IsFresh w.setup s' fences other) (walking w.setup.tables (enclave_at w.enclaves) l (under_of other))) (sym (c.lines other differs))
         (subst (λ u. WalkingStands ctl (IsFresh w.setup s' fences other) (walking w.setup.tables (enclave_at w.enclaves) (hart_line w other) u)) (sym (c.unders other differs)) (elim (cases_lt other w.setup.harts) [
           | inl below ↦ same_walk other below differs
-          | inr past ↦ subst (λ u. WalkingStands ctl (IsFresh w.setup s' fences other) (walking w.setup.tables (enclave_at w.enclaves) (hart_line w other) u)) (sym (under_past other past))
+          | inr past ↦ subst (λ u. WalkingStands ctl (IsFresh w.setup s' fences other) (walking w.setup.tables (enclave_at w.enclaves) (hart_line w other) u)) (sym (under_past digest_of w k other past))
               (idle_walks ctl (IsFresh w.setup s' fences other) w.setup.tables (enclave_at w.enclaves) (hart_line w other))
         ]))
 
@@ -129,6 +124,7 @@ module _ (digest_of : List ℕ → List ℕ) (w : WorldData) (k : Kept digest_of
       harts = c.harts ∙ t.harts;
       fences_stand = c.fences_stand;
       removals = everywhere (λ other. RemovalStands (line_of other) (under_of other) (removals_by s'.removals other)) hart c.own_removals removal_other;
+      giving = c.giving;
       fresh = record {
         entries = everywhere (λ other. All (IsFresh w.setup s' fences other) (tlb_at tlbs other)) hart c.own entries_other;
         walks = everywhere (λ other. WalkingStands ctl (IsFresh w.setup s' fences other) (walking w.setup.tables (enclave_at w.enclaves) (line_of other) (under_of other))) hart c.own_walk walk_other;

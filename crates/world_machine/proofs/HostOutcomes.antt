@@ -23,6 +23,7 @@ use Rattle.world_machine.specs.Standing.{IsAttackedPlace, Kept, state_of}
 use Rattle.world_machine.specs.Worlds.{WorldData, hart_line, under_at}
 use Rattle.world_machine.proofs.AccessRows.{access_kept}
 use Rattle.world_machine.proofs.Licences.{by_word, collision_of, lies_on_path, word_is_attacked}
+use Rattle.world_machine.proofs.LineTranslations.{unbegun_waits_none}
 use Rattle.world_machine.proofs.QuietRows.{answers_kept}
 use Rattle.world_machine.proofs.RowKept.{collision_kept}
 
@@ -41,7 +42,8 @@ module _ (digest_of : List ℕ → List ℕ) (room_stays : RoomStays) (w : World
 
   pub refused_kept : (cause : No) → AllowedAnswer w.setup s line false (answer_is.No cause) → Kept digest_of (answers w hart (answer_is.No cause))
   refused_kept cause allowed = answers_kept digest_of room_stays w k none hart below line (answer_is.No cause) refl h.here
-      (subst (λ b. AllowedAnswer w.setup s line b (answer_is.No cause)) (sym h.not_begun) allowed) (h.changes_none cause) h.no_removal
+      (subst (λ b. AllowedAnswer w.setup s line b (answer_is.No cause)) (sym h.not_begun) allowed) (h.changes_none cause)
+      (unbegun_waits_none (under_at w.under hart) h.not_begun)
 
 module _ (digest_of : List ℕ → List ℕ) (room_stays : RoomStays) (w : WorldData) (k : Kept digest_of w) (none : w.collision ≡ None) (hart : ℕ) (below : hart < w.setup.harts)
     (line : Line) (va : Va) (h : HostLine w hart line va)

@@ -31,13 +31,14 @@ use Rattle.world_machine.specs.HostAccessing.{WordAccess, kind_of, loads, made, 
 use Rattle.world_machine.specs.Standing.{Kept, state_of}
 use Rattle.world_machine.specs.Translating.{offset_at, page_at}
 use Rattle.world_machine.specs.TranslationsAgree.{MayUse}
-use Rattle.world_machine.specs.Worlds.{WorldData}
+use Rattle.world_machine.specs.Worlds.{WorldData, under_at}
 use Rattle.world_machine.proofs.HostAccesses.{IsAccess, access_line_is}
 use Rattle.world_machine.proofs.HostAnswers.{MayAnswer, access_line, address_passes, far_allowed, load_allowed, mapping_forbids, nothing_forbids, protection_forbids, refusal_allowed, store_allowed}
 use Rattle.world_machine.proofs.HostOutcomes.{HostLine, refused_kept}
 use Rattle.world_machine.proofs.HostSpaces.{used_answers, used_is}
 use Rattle.world_machine.proofs.HostStores.{stored_kept}
 use Rattle.world_machine.proofs.HostTranslations.{ForbidsHost, ReachesHost}
+use Rattle.world_machine.proofs.LineTranslations.{unbegun_waits_none}
 use Rattle.world_machine.proofs.QuietRows.{answers_kept}
 
 -- ---- a mapping of the address that the hart may use
@@ -120,7 +121,7 @@ module _ (digest_of : List ℕ → List ℕ) (room_stays : RoomStays) (w : World
       (answers_kept digest_of room_stays w k none hart below (Load va) (answer_is.Value (host_word s va at.mapping)) refl is.here
       (subst (λ b. AllowedAnswer w.setup s (Load va) b (answer_is.Value (host_word s va at.mapping))) (sym line.not_begun)
       (load_allowed w.setup s va (at_passes loads walk is pa at) at.mapping (answers_by digest_of w k hart va at.mapping at.may at.vpn) (unforbidden loads walk is pa at permitted)))
-      refl line.no_removal)
+      refl (unbegun_waits_none (under_at w.under hart) line.not_begun))
   made_kept (stores word) walk is pa at permitted =
       let m : Mapping = at.mapping in
       subst (λ page. Kept digest_of (answers (record w { ctl = raw_written w.ctl page (offset_at pa) word }) hart answer_is.Ok)) (sym at.page)

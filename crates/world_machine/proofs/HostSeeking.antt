@@ -1,5 +1,5 @@
 -- The TLB of a hart learns, and the walk of a load or a store of the host goes on: the world keeps what it kept.
-use Rattle.std.proofs.Common.{◌≡◌, ℕ, ◌<◌, List, [], length, Some, None, refl, sym, ap, ◌∙◌, subst}
+use Rattle.std.proofs.Common.{◌≡◌, ℕ, ◌<◌, true, List, [], length, Some, None, refl, sym, ap, ◌∙◌, subst}
 use Rattle.std.specs.Prelude.{slice_set}
 use Rattle.std.specs.List.{All}
 use Rattle.pl_base.specs.declared.address.Va.{Va}
@@ -12,7 +12,6 @@ use Rattle.world_machine.specs.declared.under.Under.{Under}
 use Rattle.world_machine.specs.declared.under.Under.TheVariants.{Seeking}
 use Rattle.world_machine.specs.Answering.{goes_on}
 use Rattle.world_machine.specs.BytesAgree.{HasPut}
-use Rattle.world_machine.specs.FencesStand.{RemovalStands, removals_by}
 use Rattle.world_machine.specs.HostAccessing.{WordAccess}
 use Rattle.world_machine.specs.LinesUnderWay.{LineUnderWay, number_under_way}
 use Rattle.world_machine.specs.Standing.{Kept, state_of, written_page}
@@ -23,10 +22,11 @@ use Rattle.world_machine.proofs.HostAccesses.{IsAccess, access_line_is, access_n
 use Rattle.world_machine.proofs.HostAnswers.{access_line}
 use Rattle.world_machine.proofs.HostOutcomes.{HostLine}
 use Rattle.world_machine.proofs.LineKinds.{goes_on_line, still_line}
-use Rattle.world_machine.proofs.LineTranslations.{removes_none}
+use Rattle.world_machine.proofs.LineTranslations.{isnt_waiting, unbegun_waits_none}
 use Rattle.world_machine.proofs.Lists.{ChangedAt, changed_set, everywhere}
 use Rattle.world_machine.proofs.QuietRows.{attacks_live}
 use Rattle.world_machine.proofs.RowKept.{row_kept, same_sizes}
+use Rattle.world_machine.proofs.TranslationFrames.{giving_stays, removals_stay}
 
 module _ (digest_of : List ℕ → List ℕ) (room_stays : RoomStays) (w : WorldData) (k : Kept digest_of w) (none : w.collision ≡ None) (hart : ℕ) (below : hart < w.setup.harts) where
   abbrev s : Monitor
@@ -57,6 +57,7 @@ module _ (digest_of : List ℕ → List ℕ) (room_stays : RoomStays) (w : World
           harts = changes.size ∙ k.stands.translations.harts;
           fences_stand = k.stands.translations.fences_stand;
           removals = k.stands.translations.removals;
+          giving = k.stands.translations.giving;
           fresh = record {
             entries = everywhere (λ h. All (IsFresh w.setup s w.fences h) (tlb_at (slice_set w.tlbs hart entries) h)) hart
                 (subst (All Fresh) (sym changes.here) all)
@@ -76,6 +77,9 @@ module _ (digest_of : List ℕ → List ℕ) (room_stays : RoomStays) (w : World
 
     line_is : HostLine w hart (access_line va access) va
     line_is = access_line_is digest_of w k hart va access walk is
+
+    waited : isnt_waiting (under_at w.under hart) ≡ true
+    waited = unbegun_waits_none (under_at w.under hart) line_is.not_begun
 
     walk_own : WalkingStands w.ctl Fresh (walking w.setup.tables (enclave_at w.enclaves) (hart_line w hart) u)
     walk_own =
@@ -103,11 +107,8 @@ module _ (digest_of : List ℕ → List ℕ) (room_stays : RoomStays) (w : World
             tables = k.stands.translations.tables;
             harts = k.stands.translations.harts;
             fences_stand = k.stands.translations.fences_stand;
-            removals = everywhere (λ h. RemovalStands (hart_line w h) (under_at now h) (removals_by s.removals h)) hart
-                (subst (λ x. RemovalStands (hart_line w hart) x (removals_by s.removals hart)) (sym moves.under_change.here)
-                (removes_none (hart_line w hart) u (removals_by s.removals hart) refl line_is.no_removal))
-                (λ other differs. subst (λ x. RemovalStands (hart_line w other) x (removals_by s.removals other)) (sym (moves.under_change.others other differs))
-                (k.stands.translations.removals other));
+            removals = removals_stay digest_of w k hart (hart_line w) (under_at now) (λ other differs. refl) moves.under_change.others waited (ap isnt_waiting moves.under_change.here);
+            giving = giving_stays digest_of w k hart (hart_line w) (under_at now) (λ other differs. refl) moves.under_change.others waited (ap isnt_waiting moves.under_change.here);
             fresh = record {
               entries = k.stands.translations.fresh.entries;
               walks = everywhere (λ h. WalkingStands w.ctl (IsFresh w.setup s w.fences h) (walking w.setup.tables (enclave_at w.enclaves) (hart_line w h) (under_at now h))) hart

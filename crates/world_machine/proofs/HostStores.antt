@@ -34,7 +34,7 @@ use Rattle.world_machine.specs.declared.under.Under.{Under}
 use Rattle.world_machine.specs.declared.under.Under.TheVariants.{Idle, Putting}
 use Rattle.world_machine.specs.Answering.{answers, entry_now, with_entry}
 use Rattle.world_machine.specs.BytesAgree.{ByteAgrees, HasPut, HostBytesAgree, OnlyAttacksDiffer, PageAgrees}
-use Rattle.world_machine.specs.LinesUnderWay.{LineUnderWay}
+use Rattle.world_machine.specs.LinesUnderWay.{LineUnderWay, number_under_way}
 use Rattle.world_machine.specs.Pages.{numbers_of}
 use Rattle.world_machine.specs.RecordsAgree.{RecordsAgree, owner_of}
 use Rattle.world_machine.specs.Standing.{Kept, state_of, written_page}
@@ -42,6 +42,7 @@ use Rattle.world_machine.specs.Worlds.{WorldData, answered_at, hart_line, under_
 use Rattle.world_machine.proofs.HostOutcomes.{HostLine}
 use Rattle.world_machine.proofs.LineKinds.{answered_line}
 use Rattle.world_machine.proofs.LineMoves.{LineMoves}
+use Rattle.world_machine.proofs.LineTranslations.{unbegun_waits_none}
 use Rattle.world_machine.proofs.Lists.{everywhere}
 use Rattle.world_machine.proofs.NumberRows.{host_within}
 use Rattle.world_machine.proofs.QuietRows.{idle_has_none, idle_put_none, none_some}
@@ -54,10 +55,10 @@ in_whole : (n : ℕ) (xs : List ℕ) (x : ℕ) → Contains (take n xs) x → Co
 in_whole n xs x here = All-contains (Contains xs) (take n xs) x (All-take (Contains xs) n xs (All-contains_itself xs)) here
 
 -- a page that a line has put is one of its number's
-put_page : (setup : SetupParts) (bytes_of : ℕ → List ℕ) (rec : ℕ → Enclave) (of : ℕ → Number) (hart : ℕ) (line : Option Line) (under : Under) (page : ℕ) → RecordsAgree rec of
-    → LineUnderWay setup bytes_of rec of hart line under → HasPut line under page → (e : ℕ) × Contains (of e).pages page
+pub put_page : (setup : SetupParts) (bytes_of : ℕ → List ℕ) (rec : ℕ → Enclave) (of : ℕ → Number) (hart : ℕ) (line : Option Line) (under : Under) (page : ℕ) → RecordsAgree rec of
+    → LineUnderWay setup bytes_of rec of hart line under → HasPut line under page → (e : ℕ) × (number_under_way line under ≡ Some e) × Contains (of e).pages page
 put_page setup bytes_of rec of hart (Some (Create e image pages)) (Putting done) page agree k put =
-    (e.0, subst (λ all. Contains all page) (sym ((agree e.0).pages ∙ ap numbers_of k.pages_are ∙ own_numbers pages)) (in_whole done pages page put))
+    (e.0, refl, subst (λ all. Contains all page) (sym ((agree e.0).pages ∙ ap numbers_of k.pages_are ∙ own_numbers pages)) (in_whole done pages page put))
 put_page setup bytes_of rec of hart line under page agree k put = absurd put
 
 module _ (digest_of : List ℕ → List ℕ) (room_stays : RoomStays) (w : WorldData) (k : Kept digest_of w) (none : w.collision ≡ None) (hart : ℕ) (below : hart < w.setup.harts)
@@ -161,7 +162,7 @@ module _ (digest_of : List ℕ → List ℕ) (room_stays : RoomStays) (w : World
   put_still : (other p : ℕ) → HasPut (hart_line w other) (under_at w.under other) p → PageAgrees ctl.off_chip w.ctl.mirror s.attacks p
   put_still other p put =
       let among = put_page w.setup (written_page w) (enclave_at w.enclaves) s.number other (hart_line w other) (under_at w.under other) p k.stands.records (k.stands.lines other) put in
-      page_still p (number_apart p among.0 among.1) (k.stands.attacks.put other p put)
+      page_still p (number_apart p among.0 among.2) (k.stands.attacks.put other p put)
 
   line_other : (other : ℕ) → other ≢ hart → line_after w answered' other ≡ hart_line w other
   line_other other differs = ap (slice_get (script_of w.setup other)) (moves.answered_change.others other differs)
@@ -192,5 +193,6 @@ module _ (digest_of : List ℕ → List ℕ) (room_stays : RoomStays) (w : World
     other_lines = λ other differs. k.stands.lines other;
     own_line = tt;
     own_apart = λ other e differs own is. none_some e _ (idle_has_none _) own;
-    translations = quiet_translations digest_of w k ctl refl s' refl refl refl hart _ _ line_other moves.under_change.others h.no_removal moves.under_change.here;
+    translations = quiet_translations digest_of w k ctl refl s' refl refl refl hart _ _ line_other moves.under_change.others
+        (unbegun_waits_none (under_at w.under hart) h.not_begun) moves.under_change.here;
   })

@@ -66,7 +66,7 @@ module _ (digest_of : List ℕ → List ℕ) (w : WorldData) (k : Kept digest_of
     perms_are = ap (λ (x : TlbEntry). x.perms) is.is;
   }
 
-  not_number : (ppn : Ppn) (perms : Perms) → IsNumberEntry w.setup s (translation_of view va ppn perms) → ⊥
+  not_number : (ppn : Ppn) (perms : Perms) → IsNumberEntry w.setup s w.fences hart (translation_of view va ppn perms) → ⊥
   not_number ppn perms is = (let h : 0 ≡ is.e + 1 = ap (λ (x : TlbEntry). x.space.0) is.is in omega (arith, h))
 
   pub fresh_used : (ppn : Ppn) (perms : Perms) → Fresh (translation_of view va ppn perms) → IsUsed ppn perms

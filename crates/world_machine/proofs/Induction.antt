@@ -5,6 +5,7 @@ use Rattle.std.proofs.lemmas.Bool.Decides.{nat_tests}
 use Rattle.pl_base.specs.declared.actor.Actor.{Actor}
 use Rattle.pl_base.specs.declared.actor.Actor.TheVariants as actor_is
 use Rattle.pl_base.specs.declared.address.Va.{Va}
+use Rattle.pl_base.specs.declared.number.EncNo.{EncNo}
 use Rattle.pl_base.specs.declared.number.HartSet.{HartSet}
 use Rattle.mem_ctl.specs.Laws.{CallsTell}
 use Rattle.mem_ctl.proofs.TellLaws.{calls_tell}
@@ -13,25 +14,28 @@ use Rattle.pl_history.specs.declared.answer.Answer.TheVariants as answer_is
 use Rattle.pl_history.specs.declared.line.AttackLine.{AttackLine}
 use Rattle.pl_history.specs.declared.line.AttackLine.TheVariants as attack
 use Rattle.pl_history.specs.declared.line.Line.{Line}
-use Rattle.pl_history.specs.declared.line.Line.TheVariants.{Load, Store, Map, Unmap, Create, Run, Resume, Send, Take, After}
+use Rattle.pl_history.specs.declared.line.Line.TheVariants.{Load, Store, Map, Unmap, Create, Run, Resume, Send, Take, Destroy, After}
 use Rattle.pl_history.specs.Legal.{AllowedAnswer}
 use Rattle.pl_history.specs.Monitor.{Progress}
 use Rattle.pl_history.specs.Rules.{is_actor, names_known}
 use Rattle.world_attack.proofs.RoomLemmas.{room_stays}
 use Rattle.world_machine.specs.declared.under.Under.{Under}
-use Rattle.world_machine.specs.declared.under.Under.TheVariants.{Idle, Seeking, Removing, Putting, Running}
+use Rattle.world_machine.specs.declared.under.Under.TheVariants.{Idle, Seeking, Removing, Destroying, Putting, Running}
 use Rattle.world_machine.specs.Acknowledging.{owed}
 use Rattle.world_machine.specs.Answering.{answers, quiet}
+use Rattle.world_machine.specs.GivingBack.{ends_destroy}
 use Rattle.world_machine.specs.HostAccessing.{loads, stores}
-use Rattle.world_machine.specs.HostMapping.{lacked_by}
+use Rattle.world_machine.specs.HostMapping.{ends_unmap, lacked_by}
 use Rattle.world_machine.specs.RecordsAgree.{is_begun}
 use Rattle.world_machine.specs.Standing.{Kept, state_of}
-use Rattle.world_machine.specs.Steps.{AllFit, AnyAnswer, Fits, Step, Turn, ack_turn, actor_turn, attacker_turn, counted, due, hart_turn, moves, replay_from, rests, stepped, turn_of, unmap_turn, world_after}
+use Rattle.world_machine.specs.Steps.{AllFit, AnyAnswer, Fits, Step, Turn, ack_turn, actor_turn, attacker_turn, counted, due, hart_turn, moves, replay_from, rests, stepped, turn_of, waiting_turn, world_after}
 use Rattle.world_machine.specs.Worlds.{CollisionData, WorldData, answered_at, attacker_line, hart_line, under_at}
 use Rattle.world_machine.proofs.AckRows.{acknowledged_kept}
 use Rattle.world_machine.proofs.AttackRows.{attacker_waited_kept, attacks_kept}
 use Rattle.world_machine.proofs.BeginRunRows.{begin_run_kept}
 use Rattle.world_machine.proofs.CreateRows.{begin_create_kept}
+use Rattle.world_machine.proofs.DestroyEnds.{ends_destroy_kept}
+use Rattle.world_machine.proofs.DestroyRows.{begins_destroy_kept}
 use Rattle.world_machine.proofs.HostAccessRows.{accesses_host_kept, begins_access_kept}
 use Rattle.world_machine.proofs.MapRows.{maps_kept}
 use Rattle.world_machine.proofs.PutRows.{put_next_kept}
@@ -39,7 +43,7 @@ use Rattle.world_machine.proofs.QuietRows.{answers_kept}
 use Rattle.world_machine.proofs.RowKept.{beside_kept}
 use Rattle.world_machine.proofs.RunEvents.{runs_kept}
 use Rattle.world_machine.proofs.SetupFacts.{line_names}
-use Rattle.world_machine.proofs.TranslationFrames.{removal_so}
+use Rattle.world_machine.proofs.LineTranslations.{isnt_waiting}
 use Rattle.world_machine.proofs.UnmapEnds.{ends_unmap_kept}
 use Rattle.world_machine.proofs.UnmapRows.{begins_unmap_kept}
 use Rattle.world_machine.proofs.WordRows.{send_kept, take_kept}
@@ -71,9 +75,14 @@ module _ (digest_of : List ℕ → List ℕ) (law : (m : List ℕ) → length (d
         omega arith
 
     -- a removal ends, or waits
-    removal_kept : (va : Va) (page : ℕ) → hart_line w hart ≡ Some (Unmap va) → under_at w.under hart ≡ Removing page → (o : Option HartSet) → lacked_by w hart ≡ o → KeptTurn digest_of (unmap_turn w hart page o)
+    removal_kept : (va : Va) (page : ℕ) → hart_line w hart ≡ Some (Unmap va) → under_at w.under hart ≡ Removing page → (o : Option HartSet) → lacked_by w hart ≡ o → KeptTurn digest_of (waiting_turn (ends_unmap w hart page) o)
     removal_kept va page here so_far None nobody = ends_unmap_kept digest_of room_stays w k none hart below va page here so_far nobody
     removal_kept va page here so_far (Some harts) lacking = tt
+
+    -- a number is given back, or its hart waits
+    giving_kept : (e : EncNo) → hart_line w hart ≡ Some (Destroy e) → under_at w.under hart ≡ Destroying → (o : Option HartSet) → lacked_by w hart ≡ o → KeptTurn digest_of (waiting_turn (ends_destroy w hart e) o)
+    giving_kept e here so_far None nobody = ends_destroy_kept digest_of room_stays w k none hart below e here so_far nobody
+    giving_kept e here so_far (Some harts) lacking = tt
 
     -- one clause a row
     due_kept : (line : Line) (under : Under) → hart_line w hart ≡ Some line → under_at w.under hart ≡ under → KeptTurn digest_of (due digest_of w hart positions line under)
@@ -84,6 +93,8 @@ module _ (digest_of : List ℕ → List ℕ) (law : (m : List ℕ) → length (d
     due_kept (Map va page perms) Idle here so_far = maps_kept digest_of law room_stays w k none hart below va page perms here so_far positions
     due_kept (Unmap va) Idle here so_far = begins_unmap_kept digest_of law room_stays w k none hart below va here so_far positions
     due_kept (Unmap va) (Removing page) here so_far = removal_kept va page here so_far (lacked_by w hart) refl
+    due_kept (Destroy e) Idle here so_far = begins_destroy_kept digest_of room_stays w k none hart below e here so_far (number_there (Destroy e) e.0 here (λ is. grind (arith, nat_tests)))
+    due_kept (Destroy e) Destroying here so_far = giving_kept e here so_far (lacked_by w hart) refl
     due_kept (Create e image pages) Idle here so_far = begin_create_kept digest_of room_stays w k none hart below e image pages here so_far
     due_kept (Create e image pages) (Putting done) here so_far = put_next_kept digest_of tells.page_writes room_stays w k none hart below positions e image pages done here so_far
     due_kept (Run e budget) Idle here so_far = begin_run_kept digest_of room_stays w k none hart below so_far true e budget here
@@ -97,7 +108,7 @@ module _ (digest_of : List ℕ → List ℕ) (law : (m : List ℕ) → length (d
         (λ enough. answers_kept digest_of room_stays w k none hart below (After actor count) answer_is.Ok refl here
         (subst (λ b. AllowedAnswer w.setup (state_of w) (After actor count) b answer_is.Ok) (sym (ap is_begun so_far))
         (subst (λ n. count ≤ n) (sym (ap (λ (p : Progress). p.answered) (k.stands.progress actor))) enough))
-        refl (removal_so digest_of w k hart Idle so_far refl))
+        refl (ap isnt_waiting so_far))
     due_kept line under here so_far = tt
 
     hart_kept : (line : Option Line) → hart_line w hart ≡ line → KeptTurn digest_of (hart_turn digest_of w hart positions line)

@@ -27,7 +27,7 @@ use Rattle.pl_history.specs.declared.line.Line.TheVariants.{Load, Store, Map, Un
 use Rattle.pl_history.specs.declared.setup.SetupParts.{SetupParts}
 use Rattle.pl_history.specs.Protection.{pmp_of}
 use Rattle.world_machine.specs.declared.under.Under.{Under}
-use Rattle.world_machine.specs.declared.under.Under.TheVariants.{Idle, Putting, Removing, Running, Seeking}
+use Rattle.world_machine.specs.declared.under.Under.TheVariants.{Idle, Seeking, Removing, Destroying, Putting, Running}
 use Rattle.world_machine.specs.Acknowledging.{acknowledged, owed, restarted}
 use Rattle.world_machine.specs.Answering.{answers, quiet}
 use Rattle.world_machine.specs.HostAccessing.{WordAccess, accesses_host, begins_access, host_faults, host_learns, host_request, kind_of, loads, made, reaches_host, stores}
@@ -66,6 +66,7 @@ restarted_left setup space (Some (Resume e budget)) (Running micro count) = let 
 restarted_left setup space (Some line) Idle = omega arith
 restarted_left setup space (Some line) (Seeking walk) = omega arith
 restarted_left setup space (Some line) (Removing page) = omega arith
+restarted_left setup space (Some line) Destroying = omega arith
 restarted_left setup space (Some line) (Putting done) = omega arith
 restarted_left setup space (Some line) (Running micro count) = omega arith
 

@@ -21,7 +21,7 @@ use Rattle.pl_history.specs.declared.answer.Answer.TheVariants as answer_is
 use Rattle.pl_history.specs.declared.line.AttackLine.{AttackLine}
 use Rattle.pl_history.specs.declared.line.AttackLine.TheVariants as attack
 use Rattle.pl_history.specs.declared.line.Line.{Line}
-use Rattle.pl_history.specs.declared.line.Line.TheVariants.{Load, Store, Map, Unmap, Create, Run, Resume, Send, Take, After}
+use Rattle.pl_history.specs.declared.line.Line.TheVariants.{Load, Store, Map, Unmap, Create, Run, Resume, Send, Take, Destroy, After}
 use Rattle.pl_history.specs.declared.setup.SetupParts.{SetupParts}
 use Rattle.pl_history.specs.Protection.{pmp_of}
 use Rattle.pl_history.specs.Rules.{is_actor}
@@ -29,20 +29,22 @@ use Rattle.world_machine.specs.declared.turned.Turned.{Turned}
 use Rattle.world_machine.specs.declared.turned.Turned.TheVariants as turned
 use Rattle.world_machine.specs.declared.turned.Wait.TheVariants as wait
 use Rattle.world_machine.specs.declared.under.Under.{Under}
-use Rattle.world_machine.specs.declared.under.Under.TheVariants.{Idle, Putting, Removing, Running, Seeking}
+use Rattle.world_machine.specs.declared.under.Under.TheVariants.{Idle, Seeking, Removing, Destroying, Putting, Running}
 use Rattle.world_machine.specs.Acknowledging.{owed}
 use Rattle.world_machine.specs.Answering.{answers}
+use Rattle.world_machine.specs.GivingBack.{ends_destroy}
 use Rattle.world_machine.specs.HostAccessing.{WordAccess, loads, stores}
-use Rattle.world_machine.specs.HostMapping.{lacked_by}
+use Rattle.world_machine.specs.HostMapping.{ends_unmap, lacked_by}
 use Rattle.world_machine.specs.Making.{image_of}
 use Rattle.world_machine.specs.Running.{begin_run}
 use Rattle.world_machine.specs.Runs.{attacker_left, fences_left, hart_left, line_left, remaining}
 use Rattle.world_machine.specs.Standing.{Kept, state_of}
-use Rattle.world_machine.specs.Steps.{Step, Turn, ack_turn, actor_turn, attacker_turn, counted, due, hart_turn, moves, rests, stepped, turn_of, turned_by, unmap_turn, world_after}
+use Rattle.world_machine.specs.Steps.{Step, Turn, ack_turn, actor_turn, attacker_turn, counted, due, hart_turn, moves, rests, stepped, turn_of, turned_by, waiting_turn, world_after}
 use Rattle.world_machine.specs.Translating.{host_view}
 use Rattle.world_machine.specs.TranslationsAgree.{IsFresh, WalkingStands, walking}
 use Rattle.world_machine.specs.Worlds.{CollisionData, Event, WorldData, answered_at, attacker_line, hart_line, under_at}
 use Rattle.world_machine.proofs.FencesLeft.{needs_left}
+use Rattle.world_machine.proofs.LessDestroyRows.{begins_destroy_less, ends_destroy_less}
 use Rattle.world_machine.proofs.LessHostRows.{access_line, acknowledged_less, begins_access_less, begins_unmap_less, ends_unmap_less, maps_less, seeks_less}
 use Rattle.world_machine.proofs.LessRows.{answer_less, begins_less, changes_less, put_less, run_less}
 use Rattle.world_machine.proofs.Lessens.{all_left, left_of, remaining_is}
@@ -63,6 +65,10 @@ waits_less : (w : WorldData) (actor count : ℕ) (done : Event) (b : Bool) → r
     → LessTurn w (if b then moves done else rests (turned.Blocked (wait.After actor count)))
 waits_less w actor count done true less = less
 waits_less w actor count done false less = refl
+
+ends_less : (w ended : WorldData) (o : Option HartSet) → remaining ended < remaining w → LessTurn w (waiting_turn ended o)
+ends_less w ended None less = less
+ends_less w ended (Some harts) less = refl
 
 module _ (digest_of : List ℕ → List ℕ) (w : WorldData) (k : Kept digest_of w) (none : w.collision ≡ None) where
   module _ (hart : ℕ) (below : hart < w.setup.harts) (positions : List ℕ) where
@@ -93,10 +99,6 @@ module _ (digest_of : List ℕ → List ℕ) (w : WorldData) (k : Kept digest_of
         by_access loads stands = stands_below w.ctl Fresh (host_view w.setup.tables) va walk stands
         by_access (stores word) stands = stands_below w.ctl Fresh (host_view w.setup.tables) va walk stands
 
-    removing_less : (va : Va) (page : ℕ) → hart_line w hart ≡ Some (Unmap va) → under_at w.under hart ≡ Removing page → (lacking : Option HartSet) → LessTurn w (unmap_turn w hart page lacking)
-    removing_less va page here so_far None = ends_unmap_less digest_of w k none hart below va page here so_far
-    removing_less va page here so_far (Some harts) = refl
-
     -- one clause a row
     due_less : (line : Line) (under : Under) → hart_line w hart ≡ Some line → under_at w.under hart ≡ under → LessTurn w (due digest_of w hart positions line under)
     due_less (Load va) Idle here so_far = begins_access_less digest_of w k none hart below va loads here so_far positions
@@ -105,7 +107,11 @@ module _ (digest_of : List ℕ → List ℕ) (w : WorldData) (k : Kept digest_of
     due_less (Store va word) (Seeking walk) here so_far = seeks_less digest_of w k none hart below va (stores word) walk here so_far (walk_stands va (stores word) walk here so_far) positions
     due_less (Map va page perms) Idle here so_far = maps_less digest_of w k none hart below va page perms here so_far positions
     due_less (Unmap va) Idle here so_far = begins_unmap_less digest_of w k none hart below va here so_far positions
-    due_less (Unmap va) (Removing page) here so_far = removing_less va page here so_far (lacked_by w hart)
+    due_less (Unmap va) (Removing page) here so_far =
+        ends_less w (ends_unmap w hart page) (lacked_by w hart) (ends_unmap_less digest_of w k none hart below va page here so_far)
+    due_less (Destroy e) Idle here so_far = begins_destroy_less digest_of w k none hart below e here so_far
+    due_less (Destroy e) Destroying here so_far =
+        ends_less w (ends_destroy w hart e) (lacked_by w hart) (ends_destroy_less digest_of w k none hart below e here so_far)
     due_less (Create e image pages) Idle here so_far = create_less e image pages here so_far
     due_less (Create e image pages) (Putting done) here so_far = put_less digest_of w k none hart below e image pages done here so_far positions
     due_less (Run e budget) Idle here so_far = begin_less true e (Run e budget) here so_far (omega arith)

@@ -28,6 +28,7 @@ pub some_cost : (setup : SetupParts) (line : Line) → 0 < cost_of setup line
 some_cost setup (line_is.Load va) = omega arith
 some_cost setup (line_is.Store va word) = omega arith
 some_cost setup (line_is.Unmap va) = omega arith
+some_cost setup (line_is.Destroy e) = omega arith
 some_cost setup (line_is.Create e image pages) = omega arith
 some_cost setup (line_is.Run e budget) = omega arith
 some_cost setup (line_is.Resume e budget) = omega arith

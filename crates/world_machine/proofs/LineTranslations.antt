@@ -1,4 +1,4 @@
--- What the translations say of a hart's line: what it takes away, and where its walk stands after an event of another hart.
+-- What the translations say of a hart's line: what it takes away or gives back, and where its walk stands after an event of another hart.
 use Rattle.std.proofs.Common.{◌≡◌, ℕ, ◌+◌, Bool, true, false, List, [], Option, Some, None, option_map, refl, ap, sym, ◌∙◌, subst}
 use Rattle.pl_base.specs.Address.{vpn_of}
 use Rattle.pl_base.specs.declared.access.Kind.{Kind}
@@ -15,40 +15,53 @@ use Rattle.rv_sv39.specs.Walk.{table_at}
 use Rattle.rv_tlb.specs.declared.tlb.TlbEntry.{TlbEntry}
 use Rattle.mem_ctl.specs.Data.{CtlData}
 use Rattle.mon_enclave.specs.declared.enclave.Enclave.{Enclave}
+use Rattle.mon_fence.specs.declared.fences.Fence.{Fence}
 use Rattle.mon_host.specs.Laws.{mirror_words}
 use Rattle.mon_tables.specs.Space.{Mapping}
 use Rattle.mon_tables.specs.Tables.{root_of}
 use Rattle.pl_history.specs.declared.line.Line.{Line}
-use Rattle.pl_history.specs.declared.line.Line.TheVariants.{Load, Store, Unmap, Create, Run, Resume}
+use Rattle.pl_history.specs.declared.line.Line.TheVariants.{Load, Store, Unmap, Create, Run, Resume, Destroy}
 use Rattle.pl_history.specs.declared.setup.SetupParts.{SetupParts}
 use Rattle.pl_history.specs.Monitor.{Number}
 use Rattle.world_machine.specs.declared.under.Under.{Under}
-use Rattle.world_machine.specs.declared.under.Under.TheVariants.{Idle, Seeking, Removing, Putting, Running}
-use Rattle.world_machine.specs.FencesStand.{RemovalStands}
+use Rattle.world_machine.specs.declared.under.Under.TheVariants.{Idle, Seeking, Removing, Destroying, Putting, Running}
+use Rattle.world_machine.specs.FencesStand.{GivingStands, IsOfHost, RemovalStands}
 use Rattle.world_machine.specs.LinesUnderWay.{IsRunning, LineUnderWay, access_of, number_under_way}
-use Rattle.world_machine.specs.RecordsAgree.{LiveAgrees, RecordsAgree}
+use Rattle.world_machine.specs.RecordsAgree.{LiveAgrees, RecordsAgree, is_begun}
 use Rattle.world_machine.specs.Translating.{host_view, number_view}
 use Rattle.world_machine.specs.TranslationsAgree.{WalkStands, Walking, WalkingStands, walking, walking_of}
 
--- ---- what a line takes away
+-- ---- what a line takes away or gives back
 
--- no removal is under way
-abbrev pub isnt_removing : Under → Bool
-isnt_removing (Removing page) = false
-isnt_removing under = true
+-- a line that is so far waits for no acknowledgement: it is no begun `unmap` or `destroy`
+abbrev pub isnt_waiting : Under → Bool
+isnt_waiting (Removing page) = false
+isnt_waiting Destroying = false
+isnt_waiting under = true
 
-pub none_removed : (line : Option Line) (under : Under) (removed : List Mapping) → isnt_removing under ≡ true → RemovalStands line under removed → removed ≡ []
+-- a line that hasn't begun doesn't wait
+pub unbegun_waits_none : (under : Under) → is_begun under ≡ false → isnt_waiting under ≡ true
+unbegun_waits_none Idle is = refl
+unbegun_waits_none (Seeking walk) is = refl
+unbegun_waits_none under is = (let clash : true ≡ false = is in cc)
+
+-- a line that doesn't wait takes nothing away
+pub none_removed : (line : Option Line) (under : Under) (removed : List Mapping) → isnt_waiting under ≡ true → RemovalStands line under removed → removed ≡ []
 none_removed (Some (Unmap va)) (Removing page) removed is k = (let clash : false ≡ true = is in cc)
 none_removed line under removed is k = k
 
-pub removes_none : (line : Option Line) (under : Under) (removed : List Mapping) → isnt_removing under ≡ true → removed ≡ [] → RemovalStands line under removed
+pub removes_none : (line : Option Line) (under : Under) (removed : List Mapping) → isnt_waiting under ≡ true → removed ≡ [] → RemovalStands line under removed
 removes_none (Some (Unmap va)) (Removing page) removed is none = (let clash : false ≡ true = is in absurd (let h : ⊥ = cc in h))
 removes_none line under removed is none = none
 
--- a line that has a number under way
-pub number_removes_none : (line : Option Line) (under : Under) (e : ℕ) (removed : List Mapping) → number_under_way line under ≡ Some e → RemovalStands line under removed → removed ≡ []
-number_removes_none (Some (Unmap va)) (Removing page) e removed is k = cc
-number_removes_none line under e removed is k = k
+-- and its fence is none, or of the host's space
+pub none_given : (line : Option Line) (under : Under) (fence : Option Fence) → isnt_waiting under ≡ true → GivingStands line under fence → IsOfHost fence
+none_given (Some (Destroy e)) Destroying fence is k = (let clash : false ≡ true = is in absurd (let h : ⊥ = cc in h))
+none_given line under fence is k = k
+
+pub gives_none : (line : Option Line) (under : Under) (fence : Option Fence) → isnt_waiting under ≡ true → IsOfHost fence → GivingStands line under fence
+gives_none (Some (Destroy e)) Destroying fence is of_host = (let clash : false ≡ true = is in absurd (let h : ⊥ = cc in h))
+gives_none line under fence is of_host = of_host
 
 -- ---- walks
 
@@ -117,4 +130,5 @@ module _ (tables : ℕ) (ctl ctl' : CtlData) (Fresh Fresh' : TlbEntry → Type 0
     line_walks hart (Some (Create e image pages)) (Putting done) lines same k = tt
     line_walks hart (Some (Run e budget)) (Running micro count) lines same k = running_stays hart e.0 budget count micro lines (same e.0 refl) k
     line_walks hart (Some (Resume e budget)) (Running micro count) lines same k = running_stays hart e.0 budget count micro lines (same e.0 refl) k
+    line_walks hart (Some (Destroy e)) Destroying lines same k = tt
     line_walks hart line under lines same k = elim lines [ ]

@@ -73,7 +73,7 @@ on_stands state_is.Paused = refl
 on_stands state_is.Ended = tt
 on_stands state_is.Trapped = refl
 on_stands state_is.Faulted = refl
-on_stands state_is.Dying = refl
+on_stands state_is.Dying = tt
 
 pub image_found : (setup : SetupParts) (number : ℕ) (image : Image) → slice_get setup.images number ≡ Some image → image_of setup number ≡ image
 image_found setup number image is = ap (λ o. unwrap_or o (record { entry = 0; pages = [] })) is

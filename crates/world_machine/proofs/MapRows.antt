@@ -54,12 +54,12 @@ use Rattle.world_machine.proofs.HostRows.{HostFrame, host_row}
 use Rattle.world_machine.proofs.HostChanges.{HostChange, fresh_by, host_changed}
 use Rattle.world_machine.proofs.LineKinds.{answered_line}
 use Rattle.world_machine.proofs.LineMoves.{LineMoves}
-use Rattle.world_machine.proofs.LineTranslations.{idle_walks, removes_none}
+use Rattle.world_machine.proofs.LineTranslations.{idle_walks, isnt_waiting, removes_none}
 use Rattle.world_machine.proofs.NumberRows.{AllButOneStay, but_changed, host_within}
 use Rattle.world_machine.proofs.QuietRows.{idle_has_none, idle_put_none}
 use Rattle.world_machine.proofs.RowKept.{line_after}
 use Rattle.world_machine.proofs.SetupFacts.{line_forms}
-use Rattle.world_machine.proofs.TranslationFrames.{few_tables, host_table_inside, removal_so}
+use Rattle.world_machine.proofs.TranslationFrames.{few_tables, giving_stays, host_table_inside, removal_so}
 
 -- neither cause holds
 both_pass : (a b : Bool) (x y : No) → first_refusal (refuse a x ∷ refuse (not b) y ∷ []) ≡ None → (a ≡ false) × (b ≡ true)
@@ -227,7 +227,10 @@ module _ (digest_of : List ℕ → List ℕ) (law : HasDigests digest_of) (room_
             (removes_none _ Idle (removals_by s.removals hart) refl line_is.no_removal);
         others = λ other differs. refl;
         used = λ other there differs. used other;
-        own = All-weaker (IsFresh w.setup s w.fences hart) (IsFresh w.setup s' w.fences hart) (fresh_by w.setup s s' w.fences w.fences hart (λ e. refl) (used hart)) (tlb_at w.tlbs hart) (k.stands.translations.fresh.entries hart);
+        leaving = λ other there differs e leaving. leaving;
+        giving = giving_stays digest_of w k hart _ _ (λ other differs. ap (slice_get (script_of w.setup other)) (moves.answered_change.others other differs)) moves.under_change.others
+            (ap isnt_waiting so_far) (ap isnt_waiting moves.under_change.here);
+        own = All-weaker (IsFresh w.setup s w.fences hart) (IsFresh w.setup s' w.fences hart) (fresh_by w.setup s s' w.fences w.fences hart (λ e. refl) (used hart) (λ e leaving. leaving)) (tlb_at w.tlbs hart) (k.stands.translations.fresh.entries hart);
         lines = λ other differs. ap (slice_get (script_of w.setup other)) (moves.answered_change.others other differs);
         unders = moves.under_change.others;
         own_walk = subst (λ u. WalkingStands ctl (IsFresh w.setup s' w.fences hart)

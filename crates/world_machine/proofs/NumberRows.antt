@@ -34,11 +34,11 @@ use Rattle.world_machine.specs.TranslationsAgree.{IsFresh, TranslationsStand, Wa
 use Rattle.world_machine.specs.Worlds.{WorldData, hart_line, tlb_at, under_at}
 use Rattle.world_machine.proofs.Frames.{Frame, enclaves_frame, line_frame, records_frame}
 use Rattle.world_machine.proofs.LineMoves.{LineMoves}
-use Rattle.world_machine.proofs.LineTranslations.{fresh_walking, idle_walks, isnt_removing}
+use Rattle.world_machine.proofs.LineTranslations.{fresh_walking, idle_walks, isnt_waiting}
 use Rattle.world_machine.proofs.Lists.{ChangedAt, everywhere, if_other, if_same}
 use Rattle.world_machine.proofs.RowKept.{RowFacts, attacks_frame, line_after, row_kept, with_parts}
 use Rattle.world_machine.proofs.SetupFacts.{table_guarded, tables_apart, used_there}
-use Rattle.world_machine.proofs.TranslationFrames.{KeepsSpace, SpacesStay, TablePagesStay, fresh_stays, host_table_inside, live_there, number_removal, number_table_inside, same_keeps, translations_stay}
+use Rattle.world_machine.proofs.TranslationFrames.{KeepsSpace, SpacesStay, TablePagesStay, fresh_stays, host_table_inside, live_there, number_table_inside, same_keeps, translations_stay}
 
 -- all pages but one stay, off chip and in the mirror
 pub record AllButOneStay (page : ℕ) (old new : CtlData) : Type 0 where
@@ -103,18 +103,18 @@ never_live w e c r' n' was is = record {
   made = λ not_live live. absurd (false≢true (sym is ∙ live));
 }
 
--- The hart's line takes nothing away; its translations may be used in the state before the event, and its walk stands.
+-- The hart's line waits for nobody; its translations may be used in the state before the event, and its walk stands.
 pub record HartTranslates (w : WorldData) (hart : ℕ) (c : CtlData) (enclaves' : List Enclave) (tlbs' : List (List TlbEntry)) (line : Option Line) (u : Under) : Type 0 where
-  pub removes_none : isnt_removing u ≡ true
+  pub waits_none : isnt_waiting u ≡ true
   pub harts : length tlbs' ≡ length w.tlbs
   pub tlbs : (other : ℕ) → other ≢ hart → tlb_at tlbs' other ≡ tlb_at w.tlbs other
   pub entries : All (IsFresh w.setup (state_of w) w.fences hart) (tlb_at tlbs' hart)
   pub walk : WalkingStands c (IsFresh w.setup (state_of w) w.fences hart) (walking w.setup.tables (enclave_at enclaves') line u)
 
 -- its translations stay
-pub keeps_tlbs : (digest_of : List ℕ → List ℕ) (w : WorldData) (hart : ℕ) (c : CtlData) (enclaves' : List Enclave) (line : Option Line) (u : Under) → Kept digest_of w → isnt_removing u ≡ true
+pub keeps_tlbs : (digest_of : List ℕ → List ℕ) (w : WorldData) (hart : ℕ) (c : CtlData) (enclaves' : List Enclave) (line : Option Line) (u : Under) → Kept digest_of w → isnt_waiting u ≡ true
     → WalkingStands c (IsFresh w.setup (state_of w) w.fences hart) (walking w.setup.tables (enclave_at enclaves') line u) → HartTranslates w hart c enclaves' w.tlbs line u
-keeps_tlbs digest_of w hart c enclaves' line u k none walk = record { removes_none = none; harts = refl; tlbs = λ other differs. refl; entries = k.stands.translations.fresh.entries hart; walk = walk }
+keeps_tlbs digest_of w hart c enclaves' line u k none walk = record { waits_none = none; harts = refl; tlbs = λ other differs. refl; entries = k.stands.translations.fresh.entries hart; walk = walk }
 
 -- and its line has no walk
 pub idle_translates : (digest_of : List ℕ → List ℕ) (w : WorldData) (hart : ℕ) (c : CtlData) (enclaves' : List Enclave) (line : Option Line) → Kept digest_of w
@@ -125,7 +125,7 @@ module _ (digest_of : List ℕ → List ℕ) (w : WorldData) (k : Kept digest_of
   abbrev s : Monitor
   s = state_of w
 
-  same_number : (f g : ℕ) → Some (monitor.number f) ≡ Some (monitor.number g) → f ≡ g
+  pub same_number : (f g : ℕ) → Some (monitor.number f) ≡ Some (monitor.number g) → f ≡ g
   same_number f g same = cc
 
   -- a page of the pool has an owner
@@ -190,7 +190,7 @@ module _ (digest_of : List ℕ → List ℕ) (w : WorldData) (k : Kept digest_of
     own_leaves_tables page c own stay level low = stay.mirror (table_number w.setup.tables e level) (number_table_inside digest_of w k e level there) (own_no_table level page own)
 
     module _ (none : w.collision ≡ None) (hart : ℕ) (under_way : number_under_way (hart_line w hart) (under_at w.under hart) ≡ Some e)
-        (c : CtlData) (leaves : Leaves digest_of w.ctl c) (page : ℕ) (of_number : IsOfNumber w.setup w.owners e page) (stay : AllButOneStay page w.ctl c)
+        (waited : isnt_waiting (under_at w.under hart) ≡ true) (c : CtlData) (leaves : Leaves digest_of w.ctl c) (page : ℕ) (of_number : IsOfNumber w.setup w.owners e page) (stay : AllButOneStay page w.ctl c)
         (enclaves' : List Enclave) (r' : Enclave) (change : ChangedAt free_enclave w.enclaves enclaves' e r')
         (s' : Monitor) (n' : Number) (becomes : NumberBecomes s s' e n')
         (under' : List Under) (answered' : List ℕ) (history' : HistoryData) (u : Under) (count : ℕ) (moves : LineMoves w hart under' answered' history' s' u count)
@@ -290,8 +290,8 @@ module _ (digest_of : List ℕ → List ℕ) (w : WorldData) (k : Kept digest_of
         contexts = λ other f differs is. ap (λ (x : Enclave). x.context) (change.others f (not_theirs other f differs is));
         harts = own.harts;
         tlbs = own.tlbs;
-        none_removed = number_removal digest_of w k hart e under_way;
-        removes_none = ap isnt_removing moves.under_change.here ∙ own.removes_none;
+        waited_none = waited;
+        waits_none = ap isnt_waiting moves.under_change.here ∙ own.waits_none;
         entries = All-weaker (IsFresh w.setup s w.fences hart) (IsFresh w.setup s' w.fences hart) (fresh_stays digest_of w k c (enclave_at enclaves') w.owners s' spaces hart) (tlb_at tlbs' hart) own.entries;
         walk = subst (λ l. WalkingStands c (IsFresh w.setup s' w.fences hart) (walking w.setup.tables (enclave_at enclaves') l (under_at under' hart))) (sym line_own)
             (subst (λ v. WalkingStands c (IsFresh w.setup s' w.fences hart) (walking w.setup.tables (enclave_at enclaves') (slice_get (script_of w.setup hart) count) v)) (sym moves.under_change.here)

@@ -35,13 +35,15 @@ use Rattle.mon_tables.proofs.NumberWalks.{number_tables}
 use Rattle.pl_history.specs.Monitor.{Monitor}
 use Rattle.pl_history.specs.Rules.{pages_of}
 use Rattle.world_machine.specs.EnclavesAgree.{EnclaveStands}
+use Rattle.world_machine.specs.FencesStand.{IsLeaving}
 use Rattle.world_machine.specs.Making.{image_of}
 use Rattle.world_machine.specs.Pages.{located, numbers_of}
 use Rattle.world_machine.specs.RecordsAgree.{RecordAgrees}
 use Rattle.world_machine.specs.Standing.{Kept, state_of, written_page}
 use Rattle.world_machine.specs.Translating.{number_view, page_at}
-use Rattle.world_machine.specs.TranslationsAgree.{IsFresh, IsHostEntry, IsNumberEntry, WalkStands, space_of}
+use Rattle.world_machine.specs.TranslationsAgree.{IsFresh, IsHostEntry, IsNumberEntry, MayUseNumber, WalkStands, space_of}
 use Rattle.world_machine.specs.Worlds.{WorldData, tlb_at}
+use Rattle.world_machine.proofs.Leaving.{not_leaving}
 use Rattle.world_machine.proofs.MadeTables.{number_making}
 use Rattle.world_machine.proofs.MappingTranslations.{mapping_vpn, none_granted, page_granted, through}
 use Rattle.world_machine.proofs.NumberSpaces.{image_is, located_mapped, space_is, unlocated}
@@ -122,16 +124,21 @@ module _ (digest_of : List ℕ → List ℕ) (w : WorldData) (k : Kept digest_of
     not_host : (ppn : Ppn) (perms : Perms) → IsHostEntry s w.fences hart (translation_of view va ppn perms) → ⊥
     not_host ppn perms is = (let h : e + 1 ≡ 0 = ap (λ (x : TlbEntry). x.space.0) is.is in omega (arith, h))
 
-    of_number : (ppn : Ppn) (perms : Perms) → IsNumberEntry w.setup s (translation_of view va ppn perms) → IsMapped ppn perms
+    of_number : (ppn : Ppn) (perms : Perms) → IsNumberEntry w.setup s w.fences hart (translation_of view va ppn perms) → IsMapped ppn perms
     of_number ppn perms is =
         let number_is : is.e ≡ e = (let h : e + 1 ≡ is.e + 1 = ap (λ (x : TlbEntry). x.space.0) is.is in omega (arith, h)) in
         let vpn_is : (vpn_of va).0 ≡ is.mapping.vpn = ap (λ (x : TlbEntry). x.vpn.0) is.is in
         record {
           mapping = is.mapping;
-          there = ap (mapping_at space) vpn_is ∙ ap (λ f. mapping_at (space_of w.setup s f) is.mapping.vpn) (sym number_is) ∙ is.there;
+          there = ap (mapping_at space) vpn_is ∙ ap (λ f. mapping_at (space_of w.setup s f) is.mapping.vpn) (sym number_is) ∙ mapped number_is is.fresh;
           page = ap (λ (x : TlbEntry). x.ppn.0) is.is;
           perms_are = ap (λ (x : TlbEntry). x.perms) is.is;
         }
+      where
+        -- the number is live, so it isn't leaving
+        mapped : is.e ≡ e → MayUseNumber w.setup s w.fences hart is.e is.mapping → mapping_at (space_of w.setup s is.e) is.mapping.vpn ≡ Some is.mapping
+        mapped same (inl (lives, at)) = at
+        mapped same (inr leaving) = absurd (not_leaving digest_of w k hart e live (subst (IsLeaving w.fences hart) same leaving))
 
     pub fresh_mapped : (ppn : Ppn) (perms : Perms) → Fresh (translation_of view va ppn perms) → IsMapped ppn perms
     fresh_mapped ppn perms (inl of_host) = absurd (not_host ppn perms of_host)
@@ -150,8 +157,7 @@ module _ (digest_of : List ℕ → List ℕ) (w : WorldData) (k : Kept digest_of
           e = e;
           mapping = m;
           is = λ i. record { space = record { 0 = e + 1 }; vpn = record { 0 = sym vpn_is i }; ppn = record { 0 = t.2 i }; perms = t.3 i };
-          live = live;
-          there = ap (mapping_at space) vpn_is ∙ t.1;
+          fresh = inl (live, ap (mapping_at space) vpn_is ∙ t.1);
         })
 
     -- ---- the page that is located

@@ -20,16 +20,17 @@ use Rattle.world_machine.specs.declared.turned.Turned.{Turned}
 use Rattle.world_machine.specs.declared.turned.Turned.TheVariants as turned
 use Rattle.world_machine.specs.declared.turned.Wait.TheVariants as wait
 use Rattle.world_machine.specs.declared.under.Under.{Under}
-use Rattle.world_machine.specs.declared.under.Under.TheVariants.{Idle, Putting, Removing, Running, Seeking}
+use Rattle.world_machine.specs.declared.under.Under.TheVariants.{Idle, Seeking, Removing, Destroying, Putting, Running}
 use Rattle.world_machine.specs.Acknowledging.{acknowledged, owed}
 use Rattle.world_machine.specs.Adding.{AddsAtMostOne, AnswersAtMostOne, actor_number, moves_after}
 use Rattle.world_machine.specs.Answering.{answers}
 use Rattle.world_machine.specs.Attacking.{attacks}
+use Rattle.world_machine.specs.GivingBack.{ends_destroy}
 use Rattle.world_machine.specs.HostAccessing.{loads, stores}
 use Rattle.world_machine.specs.HostMapping.{ends_unmap, lacked_by}
-use Rattle.world_machine.specs.Steps.{Step, StepOf, Turn, ack_turn, actor_turn, attacker_turn, due, hart_turn, moves, rests, stepped, turn_of, turned_by, unmap_turn, world_after}
+use Rattle.world_machine.specs.Steps.{Step, StepOf, Turn, ack_turn, actor_turn, attacker_turn, due, hart_turn, moves, rests, stepped, turn_of, turned_by, waiting_turn, world_after}
 use Rattle.world_machine.specs.Worlds.{Event, WorldData, answered_at, attacker_line, hart_line, under_at}
-use Rattle.world_machine.proofs.HartAnswers.{Adds, access_adds, acknowledged_adds, answer_adds, begin_adds, begins_access_adds, begins_unmap_adds, changes_adds, create_adds, maps_adds, put_adds, run_adds}
+use Rattle.world_machine.proofs.HartAnswers.{Adds, access_adds, acknowledged_adds, answer_adds, begin_adds, begins_access_adds, begins_destroy_adds, begins_unmap_adds, changes_adds, create_adds, maps_adds, put_adds, run_adds}
 
 -- what a turn adds before a move is counted, where it moves
 abbrev TurnAdds : WorldData → ℕ → Turn → Type 0
@@ -41,11 +42,11 @@ waits_adds : (w : WorldData) (hart : ℕ) (b : Bool) (actor count : ℕ) (done :
 waits_adds w hart true actor count done adds = adds
 waits_adds w hart false actor count done adds = refl
 
-module _ (digest_of : List ℕ → List ℕ) (w : WorldData) where
-  removing_adds : (hart page : ℕ) (o : Option HartSet) → TurnAdds w hart (unmap_turn w hart page o)
-  removing_adds hart page None = answer_adds digest_of w hart answer_is.Ok (ends_unmap w hart page) refl refl
-  removing_adds hart page (Some harts) = refl
+ends_adds : (w : WorldData) (hart : ℕ) (ended : WorldData) (o : Option HartSet) → Adds w hart ended → TurnAdds w hart (waiting_turn ended o)
+ends_adds w hart ended None adds = adds
+ends_adds w hart ended (Some harts) adds = refl
 
+module _ (digest_of : List ℕ → List ℕ) (w : WorldData) where
   ack_adds : (hart : ℕ) (o : Option ℕ) → TurnAdds w hart (ack_turn w hart o)
   ack_adds hart None = refl
   ack_adds hart (Some requester) = acknowledged_adds digest_of w hart requester (fence_of w.fences requester)
@@ -58,7 +59,11 @@ module _ (digest_of : List ℕ → List ℕ) (w : WorldData) where
   due_adds hart positions (line_is.Store va word) (Seeking walk) = access_adds digest_of w hart va (stores word) positions walk
   due_adds hart positions (line_is.Map va page perms) Idle = maps_adds digest_of w hart positions va page perms
   due_adds hart positions (line_is.Unmap va) Idle = begins_unmap_adds digest_of w hart positions va
-  due_adds hart positions (line_is.Unmap va) (Removing page) = removing_adds hart page (lacked_by w hart)
+  due_adds hart positions (line_is.Unmap va) (Removing page) =
+      ends_adds w hart (ends_unmap w hart page) (lacked_by w hart) (answer_adds digest_of w hart answer_is.Ok (ends_unmap w hart page) refl refl)
+  due_adds hart positions (line_is.Destroy e) Idle = begins_destroy_adds digest_of w hart e
+  due_adds hart positions (line_is.Destroy e) Destroying =
+      ends_adds w hart (ends_destroy w hart e) (lacked_by w hart) (answer_adds digest_of w hart answer_is.Ok (ends_destroy w hart e) refl refl)
   due_adds hart positions (line_is.Create e image pages) Idle = create_adds digest_of w hart e.0 image pages
   due_adds hart positions (line_is.Create e image pages) (Putting done) = put_adds digest_of w hart positions e.0 image done
   due_adds hart positions (line_is.Run e budget) Idle = begin_adds digest_of w hart e.0 true

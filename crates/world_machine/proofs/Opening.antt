@@ -38,7 +38,7 @@ use Rattle.pl_history.specs.Rules.{guarded_of, is_within, pages_of}
 use Rattle.world_attack.proofs.RoomLemmas.{room_at_start}
 use Rattle.world_machine.specs.declared.under.Under.{Under}
 use Rattle.world_machine.specs.declared.under.Under.TheVariants.{Idle}
-use Rattle.world_machine.specs.FencesStand.{FenceStands, RemovalStands}
+use Rattle.world_machine.specs.FencesStand.{FenceStands, GivingStands, RemovalStands}
 use Rattle.world_machine.specs.LinesUnderWay.{LineUnderWay, number_under_way}
 use Rattle.world_machine.specs.Reached.{CanRun, opening_world}
 use Rattle.world_machine.specs.RecordsAgree.{OwnersAgree, RecordAgrees, is_begun, owner_of}
@@ -46,7 +46,7 @@ use Rattle.world_machine.specs.Sizes.{HasSizes}
 use Rattle.world_machine.specs.Standing.{Kept, Stands}
 use Rattle.world_machine.specs.TranslationsAgree.{IsFresh, TranslationsStand, WalkingStands, walking}
 use Rattle.world_machine.specs.Worlds.{tlb_at, under_at}
-use Rattle.world_machine.proofs.LineTranslations.{idle_walks, removes_none}
+use Rattle.world_machine.proofs.LineTranslations.{gives_none, idle_walks, isnt_waiting, removes_none}
 use Rattle.world_machine.proofs.QuietRows.{idle_has_none, none_some}
 use Rattle.world_machine.proofs.SetupFacts.{guarded_few}
 
@@ -273,6 +273,8 @@ module _ (digest_of : List ℕ → List ℕ) (law : (m : List ℕ) → length (d
           each = λ hart. subst (λ fence. FenceStands fence []) (sym (no_fence hart)) refl;
         };
         removals = λ hart. subst (λ u. RemovalStands (line hart) u []) (sym (is_idle hart)) (removes_none (line hart) Idle [] refl refl);
+        giving = λ hart. subst (λ fence. GivingStands (line hart) (under_at under hart) fence) (sym (no_fence hart))
+            (gives_none (line hart) (under_at under hart) None (ap isnt_waiting (is_idle hart)) tt);
         fresh = record {
           entries = λ hart. subst (All (IsFresh setup (opening setup) (replicate setup.harts None) hart)) (sym (no_entries hart)) (All-nil (IsFresh setup (opening setup) (replicate setup.harts None) hart));
           walks = λ hart. subst (λ u. WalkingStands ctl (IsFresh setup (opening setup) (replicate setup.harts None) hart) (walking setup.tables (enclave_at records) (line hart) u)) (sym (is_idle hart))

@@ -1,15 +1,15 @@
 -- Who owns each page once listed pages, which were the host's and unmapped, are given to a number; and why they can't be taken.
-use Rattle.std.proofs.Common.{◌≡◌, ◌≢◌, ℕ, zero, suc, ◌<◌, ◌≤◌, eqb, ltb, Bool, true, false, if◌then◌else◌, ◌||◌, List, [], ◌∷◌, length, slice_get, Some, refl, sym, ap, ◌∙◌, subst, arith, inl, inr, zero-add}
+use Rattle.std.proofs.Common.{◌≡◌, ◌≢◌, ℕ, zero, suc, ◌<◌, eqb, Bool, true, false, ◌||◌, List, [], ◌∷◌, length, slice_get, Some, refl, sym, ap, ◌∙◌, arith, inl, inr}
 use Rattle.std.specs.Prelude.{Contains}
 use Rattle.std.specs.List.{All}
-use Rattle.std.proofs.lemmas.Bool.{cases_Bool, eqb-true, eq-eqb, ltb-true, ltb-false}
+use Rattle.std.proofs.lemmas.Bool.{cases_Bool, eqb-true, eq-eqb}
 use Rattle.std.proofs.lemmas.List.Elements.{All-contains}
-use Rattle.std.proofs.lemmas.List.FromFn.{get_or-map-range_with_len, length-map-range_with_len}
-use Rattle.std.proofs.lemmas.Option.{slice_get-get_or, slice_get_past, slice_get_within, unwrap_or-slice_get}
+use Rattle.std.proofs.lemmas.Option.{slice_get_within}
 use Rattle.pl_base.specs.Pages.{is_among}
 use Rattle.mon_owner.specs.declared.owners.Owner.{Owner}
-use Rattle.mon_owner.specs.declared.owners.Owner.TheVariants.{Guard, Host}
-use Rattle.mon_owner.specs.Owners.{given_to, owner_at}
+use Rattle.mon_owner.specs.declared.owners.Owner.TheVariants.{Host}
+use Rattle.mon_owner.specs.Owners.{given_to}
+use Rattle.mon_owner.proofs.OwnerLists.{given_listed}
 
 -- ---- listed pages
 
@@ -33,36 +33,6 @@ in_among (p ∷ pages) page (suc k, below, is) = or_is (eqb p page) (is_among pa
     or_is false b yes' = yes'
 
 module _ (owners : List Owner) (to : Owner) (pages : List ℕ) where
-  abbrev owner_now : ℕ → Owner
-  owner_now page = if is_among pages page then to else owner_at owners page
-
-  pub length_given : length (given_to owners pages to) ≡ length owners
-  unfolding given_to
-  length_given = length-map-range_with_len owner_now 0 (length owners)
-
-  given_at : (page : ℕ) → page < length owners → slice_get (given_to owners pages to) page ≡ Some (owner_now page)
-  unfolding given_to
-  given_at page below =
-      slice_get-get_or (given_to owners pages to) page Guard (subst (λ n. page < n) (sym length_given) below)
-      ∙ ap Some (get_or-map-range_with_len owner_now 0 (length owners) page page Guard below (zero-add page))
-
-  -- a listed page has the new owner
-  pub given_listed : (page : ℕ) → page < length owners → is_among pages page ≡ true → slice_get (given_to owners pages to) page ≡ Some to
-  given_listed page below among = given_at page below ∙ ap (λ b. Some (if b then to else owner_at owners page)) among
-
-  -- and any other its own
-  pub given_other : (page : ℕ) → is_among pages page ≡ false → slice_get (given_to owners pages to) page ≡ slice_get owners page
-  given_other page other = elim (cases_Bool (ltb page (length owners))) [
-    | inl within ↦
-        let below : page < length owners = ltb-true page (length owners) within in
-        given_at page below ∙ ap (λ b. Some (if b then to else owner_at owners page)) other
-        ∙ ap Some (unwrap_or-slice_get owners page Guard) ∙ sym (slice_get-get_or owners page Guard below)
-    | inr past ↦
-        let beyond : length owners ≤ page = ltb-false page (length owners) past in
-        slice_get_past (given_to owners pages to) page (subst (λ n. n ≤ page) (sym length_given) beyond)
-        ∙ sym (slice_get_past owners page beyond)
-  ]
-
   -- ---- of pages that were the host's, and unmapped
 
   module _ (free : All (λ page. slice_get owners page ≡ Some (Host 0)) pages) where
@@ -70,7 +40,7 @@ module _ (owners : List Owner) (to : Owner) (pages : List ℕ) where
     was_free page among = All-contains (λ page. slice_get owners page ≡ Some (Host 0)) pages page free (among_in pages page among)
 
     pub given_here : (page : ℕ) → is_among pages page ≡ true → slice_get (given_to owners pages to) page ≡ Some to
-    given_here page among = given_listed page (slice_get_within owners page (Host 0) (was_free page among)) among
+    given_here page among = given_listed owners to pages page (slice_get_within owners page (Host 0) (was_free page among)) among
 
     -- a page of another owner isn't listed
     pub not_listed : (page : ℕ) (now : Owner) → now ≢ Host 0 → slice_get owners page ≡ Some now → is_among pages page ≡ false

@@ -41,7 +41,7 @@ use Rattle.world_machine.specs.declared.under.Under.{Under}
 use Rattle.world_machine.specs.declared.under.Under.TheVariants.{Idle, Putting}
 use Rattle.world_machine.specs.Answering.{answers, decided, goes_on, entry_now, with_entry}
 use Rattle.world_machine.specs.BytesAgree.{HasPut, PageAgrees}
-use Rattle.world_machine.specs.EnclavesAgree.{EnclaveStands, StatusStands}
+use Rattle.world_machine.specs.EnclavesAgree.{EnclaveStands, StatusStands, is_dying}
 use Rattle.world_machine.specs.LinesUnderWay.{HasBytes, IsPutting, LineUnderWay, number_under_way}
 use Rattle.world_machine.specs.Making.{image_of, put_next}
 use Rattle.world_machine.specs.Pages.{flat_pages, numbers_of}
@@ -52,7 +52,7 @@ use Rattle.world_machine.specs.Worlds.{WorldData, answered_at, hart_line, under_
 use Rattle.world_machine.proofs.HostBytes.{byte_of_page}
 use Rattle.world_machine.proofs.Licences.{by_replaced, collision_of, lies_on_path, own_concerned, replaced_is_attacked, table_concerned}
 use Rattle.world_machine.proofs.LineKinds.{answered_line, goes_on_line, still_line}
-use Rattle.world_machine.proofs.LineTranslations.{isnt_removing}
+use Rattle.world_machine.proofs.LineTranslations.{isnt_waiting}
 use Rattle.world_machine.proofs.Lists.{changed_none, changed_set, if_same}
 use Rattle.world_machine.proofs.MadeTables.{made_tables}
 use Rattle.world_machine.proofs.NumberRows.{AllButOneStay, IsOfNumber, becomes_answered, becomes_same, but_changed, but_none, idle_translates, keeps_tlbs, never_live, number_row, of_number_within, table_guard}
@@ -87,8 +87,8 @@ flat_is bytes (page ∷ image) (number ∷ numbers) size each =
 
 -- a number that isn't live stands whatever bytes its pages have
 unlive_stands : (setup : SetupParts) (bytes bytes' : ℕ → List ℕ) (owners : List Owner) (e : ℕ) (r : Enclave) (n : Number) (state now : State) (k : EnclaveStands setup bytes owners e r n)
-    → n.live ≡ false → StatusStands state k.now.status → EnclaveStands setup bytes' owners e (record r { state = state }) (record n { state = now })
-unlive_stands setup bytes bytes' owners e r n state now k not_live status = record {
+    → n.live ≡ false → is_dying r.state ≡ false → StatusStands state k.now.status → EnclaveStands setup bytes' owners e (record r { state = state }) (record n { state = now })
+unlive_stands setup bytes bytes' owners e r n state now k not_live alive status = record {
   image = k.image;
   image_is = k.image_is;
   count = k.count;
@@ -96,6 +96,8 @@ unlive_stands setup bytes bytes' owners e r n state now k not_live status = reco
   apart = k.apart;
   owned = k.owned;
   parent = k.parent;
+  spares = k.spares;
+  given = k.given;
   now = k.now;
   alone_is = k.alone_is;
   context = k.context;
@@ -107,7 +109,7 @@ unlive_stands setup bytes bytes' owners e r n state now k not_live status = reco
   shown_few = k.shown_few;
   shown = k.shown;
   pages = λ live. (let clash : false ≡ true = sym not_live ∙ live in cc);
-  start = λ idle. k.start not_live;
+  start = λ idle still. k.start not_live alive;
 }
 
 module _ (digest_of : List ℕ → List ℕ) (tells : PageWritesTell digest_of) (room_stays : RoomStays) (w : WorldData) (k : Kept digest_of w) (none : w.collision ≡ None) (hart : ℕ)
@@ -209,7 +211,7 @@ module _ (digest_of : List ℕ → List ℕ) (tells : PageWritesTell digest_of) 
     stays_put at before = stay.mirror (put at).page (within at (omega (arith, few))) (apart at before) ∙ puts.put at before
 
     unlive : (state now : State) → StatusStands state stands.now.status → EnclaveStands w.setup bytes' w.owners e.0 (record r { state = state }) (record n { state = now })
-    unlive state now status = unlive_stands w.setup (written_page w) bytes' w.owners e.0 r n state now stands not_live status
+    unlive state now status = unlive_stands w.setup (written_page w) bytes' w.owners e.0 r n state now stands not_live (ap is_dying puts.state) status
 
     none_live : (own : ℕ) → n.live ≡ true → PageAgrees c.off_chip c.mirror s.attacks own
     none_live own live = (let clash : false ≡ true = sym not_live ∙ live in absurd (let h : ⊥ = cc in h))
@@ -263,7 +265,7 @@ module _ (digest_of : List ℕ → List ℕ) (tells : PageWritesTell digest_of) 
       u_more = Putting (done + 1)
 
       more_kept : Kept digest_of (goes_on (record w { ctl = c }) hart (Putting (done + 1)))
-      more_kept = number_row digest_of w k e.0 there none hart under_way c leaves (put done).page (page_of done few) stay
+      more_kept = number_row digest_of w k e.0 there none hart under_way (ap isnt_waiting so_far) c leaves (put done).page (page_of done few) stay
           w.enclaves r (changed_none free_enclave w.enclaves e.0) s n (becomes_same s e.0)
           (slice_set w.under hart u_more) w.answered w.history u_more (answered_at w.answered hart)
           (goes_on_line digest_of room_stays w k hart below u_more (sym begun))
@@ -303,7 +305,7 @@ module _ (digest_of : List ℕ → List ℕ) (tells : PageWritesTell digest_of) 
 
       pages_made : stands.now.pages ≡ flat_pages (page_bytes c.mirror) stands.image.pages (numbers_of r.pages)
       pages_made =
-          ap (λ (a : Flat). a.pages) (stands.start not_live)
+          ap (λ (a : Flat). a.pages) (stands.start not_live (ap is_dying puts.state))
           ∙ ap (λ (i : Image). map flat_page i.pages) (sym image_now)
           ∙ flat_is (page_bytes c.mirror) im.pages (numbers_of r.pages) (own_size w.setup.tables e.0 im r.pages as_many)
           (λ i page at.
@@ -320,6 +322,8 @@ module _ (digest_of : List ℕ → List ℕ) (tells : PageWritesTell digest_of) 
         apart = stands.apart;
         owned = stands.owned;
         parent = stands.parent;
+        spares = stands.spares;
+        given = stands.given;
         now = stands.now;
         alone_is = stands.alone_is;
         context = stands.context;
@@ -350,7 +354,7 @@ module _ (digest_of : List ℕ → List ℕ) (tells : PageWritesTell digest_of) 
       allowed_done = subst (λ b. AllowedAnswer w.setup s line b answer_is.Ok) (sym begun) refl
 
       made_kept : Kept digest_of (answers (record w { ctl = c; enclaves = in_state w.enclaves e.0 state_is.Fresh }) hart answer_is.Ok)
-      made_kept = number_row digest_of w k e.0 there none hart under_way c leaves (put done).page (page_of done few) stay
+      made_kept = number_row digest_of w k e.0 there none hart under_way (ap isnt_waiting so_far) c leaves (put done).page (page_of done few) stay
           (in_state w.enclaves e.0 state_is.Fresh) r_made (changed_set free_enclave w.enclaves e.0 r_made held) (answer (made s e.0) hart) n_made (becomes_answered s e.0 hart n_made)
           (slice_set w.under hart Idle) (slice_set w.answered hart (answered_at w.answered hart + 1)) (with_entry w.history (entry_now w hart answer_is.Ok)) Idle (answered_at w.answered hart + 1)
           (answered_line digest_of room_stays w k hart below line answer_is.Ok refl here allowed_done (made s e.0) (λ actor. refl) refl)
@@ -417,7 +421,7 @@ module _ (digest_of : List ℕ → List ℕ) (tells : PageWritesTell digest_of) 
     }
 
     faulted_kept : Kept digest_of (answers (record w { ctl = c; enclaves = in_state w.enclaves e.0 state_is.Faulted }) hart (answer_is.No (refused.Fault place)))
-    faulted_kept = number_row digest_of w k e.0 there none hart under_way c leaves (put done).page (page_of done few) stays
+    faulted_kept = number_row digest_of w k e.0 there none hart under_way (ap isnt_waiting so_far) c leaves (put done).page (page_of done few) stays
         (in_state w.enclaves e.0 state_is.Faulted) r_faulted (changed_set free_enclave w.enclaves e.0 r_faulted held) (answer (made_faulted s e.0) hart) n_faulted
         (becomes_answered s e.0 hart n_faulted)
         (slice_set w.under hart Idle) (slice_set w.answered hart (answered_at w.answered hart + 1)) (with_entry w.history (entry_now w hart fault)) Idle (answered_at w.answered hart + 1)
@@ -432,7 +436,7 @@ module _ (digest_of : List ℕ → List ℕ) (tells : PageWritesTell digest_of) 
 
     -- the controller has changed, and nothing else
     left_kept : Kept digest_of (record w { ctl = c })
-    left_kept = number_row digest_of w k e.0 there none hart under_way c leaves (put done).page (page_of done few) stays
+    left_kept = number_row digest_of w k e.0 there none hart under_way (ap isnt_waiting so_far) c leaves (put done).page (page_of done few) stays
         w.enclaves r (changed_none free_enclave w.enclaves e.0) s n (becomes_same s e.0)
         w.under w.answered w.history (under_at w.under hart) (answered_at w.answered hart)
         (still_line digest_of room_stays w k hart below)
@@ -443,7 +447,7 @@ module _ (digest_of : List ℕ → List ℕ) (tells : PageWritesTell digest_of) 
         (record { state = puts.state; image_is = puts.image_is; pages_are = puts.pages_are; few = puts.few; put = stays_put c leaves stays }))
         (λ f is. some_same f e.0 (sym is ∙ under_way))
         (never_live w e.0 c r n not_live not_live) w.tlbs
-        (keeps_tlbs digest_of w hart c w.enclaves (hart_line w hart) (under_at w.under hart) k (ap isnt_removing so_far)
+        (keeps_tlbs digest_of w hart c w.enclaves (hart_line w hart) (under_at w.under hart) k (ap isnt_waiting so_far)
         (back (λ l u. WalkingStands c (IsFresh w.setup s w.fences hart) (walking w.setup.tables (enclave_at w.enclaves) l u)) tt))
 
   -- ---- the event, by what the access answered

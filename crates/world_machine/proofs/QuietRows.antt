@@ -1,5 +1,5 @@
 -- The rows that change no number: a line is refused, or `after` is done.
-use Rattle.std.proofs.Common.{◌≡◌, ◌≢◌, ℕ, ◌+◌, ◌<◌, List, [], slice_get, Option, Some, None, refl, sym, ap, ◌∙◌, subst}
+use Rattle.std.proofs.Common.{◌≡◌, ◌≢◌, ℕ, ◌+◌, ◌<◌, true, List, slice_get, Option, Some, None, refl, sym, ap, ◌∙◌, subst}
 use Rattle.std.specs.Prelude.{slice_set}
 use Rattle.std.specs.Prelude.{Contains}
 use Rattle.pl_history.specs.declared.answer.Answer.{Answer}
@@ -13,12 +13,12 @@ use Rattle.world_machine.specs.declared.under.Under.{Under}
 use Rattle.world_machine.specs.declared.under.Under.TheVariants.{Idle}
 use Rattle.world_machine.specs.Answering.{answers}
 use Rattle.world_machine.specs.BytesAgree.{HasPut, OnlyAttacksDiffer}
-use Rattle.world_machine.specs.FencesStand.{removals_by}
 use Rattle.world_machine.specs.LinesUnderWay.{number_under_way}
 use Rattle.world_machine.specs.RecordsAgree.{is_begun}
 use Rattle.world_machine.specs.Standing.{Kept, state_of}
 use Rattle.world_machine.specs.Worlds.{WorldData, answered_at, hart_line, under_at}
 use Rattle.world_machine.proofs.LineKinds.{answered_line}
+use Rattle.world_machine.proofs.LineTranslations.{isnt_waiting}
 use Rattle.world_machine.proofs.RowKept.{attacks_frame, line_after, row_kept, same_sizes}
 use Rattle.world_machine.proofs.TranslationFrames.{quiet_translations}
 
@@ -62,7 +62,7 @@ attacks_live w actor s' under answered digest_of k attacks lives pages lines und
 module _ (digest_of : List ℕ → List ℕ) (room_stays : RoomStays) (w : WorldData) (k : Kept digest_of w) (none : w.collision ≡ None) (hart : ℕ) (below : hart < w.setup.harts)
     (line : Line) (now : Answer) (no_part : part_end now ≡ 0) (here : hart_line w hart ≡ Some line)
     (allowed : AllowedAnswer w.setup (state_of w) line (is_begun (under_at w.under hart)) now) (gives : after_answer (state_of w) hart line now ≡ answer (state_of w) hart)
-    (no_removal : removals_by (state_of w).removals hart ≡ []) where
+    (waited : isnt_waiting (under_at w.under hart) ≡ true) where
   abbrev s' : Monitor
   s' = answer (state_of w) hart
 
@@ -86,5 +86,5 @@ module _ (digest_of : List ℕ → List ℕ) (room_stays : RoomStays) (w : World
         own_line = tt;
         own_apart = λ other e differs own there. none_some e _ (idle_has_none _) own;
         translations = quiet_translations digest_of w k w.ctl refl s' refl refl refl hart _ _
-            (λ other differs. ap (slice_get (script_of w.setup other)) (moves.answered_change.others other differs)) moves.under_change.others no_removal moves.under_change.here;
+            (λ other differs. ap (slice_get (script_of w.setup other)) (moves.answered_change.others other differs)) moves.under_change.others waited moves.under_change.here;
       })

@@ -13,20 +13,21 @@ use Rattle.mem_slots.specs.declared.slot_use.SlotUse.{SlotUse}
 use Rattle.pl_history.specs.declared.line.AttackLine.{AttackLine}
 use Rattle.pl_history.specs.declared.line.AttackLine.TheVariants as attack
 use Rattle.pl_history.specs.declared.line.Line.{Line}
-use Rattle.pl_history.specs.declared.line.Line.TheVariants.{Load, Store, Map, Unmap, Create, Run, Resume, Send, Take, After}
+use Rattle.pl_history.specs.declared.line.Line.TheVariants.{Load, Store, Map, Unmap, Create, Run, Resume, Send, Take, Destroy, After}
 use Rattle.world_machine.specs.declared.turned.Finished.{Finished}
 use Rattle.world_machine.specs.declared.turned.Finished.TheVariants as finished
 use Rattle.world_machine.specs.declared.turned.Turned.{Turned}
 use Rattle.world_machine.specs.declared.turned.Turned.TheVariants as turned
 use Rattle.world_machine.specs.declared.turned.Wait.TheVariants as wait
 use Rattle.world_machine.specs.declared.under.Under.{Under}
-use Rattle.world_machine.specs.declared.under.Under.TheVariants.{Idle, Putting, Removing, Running, Seeking}
+use Rattle.world_machine.specs.declared.under.Under.TheVariants.{Idle, Seeking, Removing, Destroying, Putting, Running}
 use Rattle.world_machine.specs.Acknowledging.{owed}
-use Rattle.world_machine.specs.HostMapping.{lacked_by}
+use Rattle.world_machine.specs.GivingBack.{ends_destroy}
+use Rattle.world_machine.specs.HostMapping.{ends_unmap, lacked_by}
 use Rattle.world_machine.specs.Reached.{Reached}
 use Rattle.world_machine.specs.Runs.{acknowledgements, all_answered, hart_turns, is_still, nobody_moves, over_of, remaining, round_of}
 use Rattle.world_machine.specs.Standing.{Kept}
-use Rattle.world_machine.specs.Steps.{Ran, Step, StepOf, Turn, ack_turn, actor_turn, attacker_turn, due, hart_turn, moves, rests, stepped, turn_of, turned_by, unmap_turn, world_after}
+use Rattle.world_machine.specs.Steps.{Ran, Step, StepOf, Turn, ack_turn, actor_turn, attacker_turn, due, hart_turn, moves, rests, stepped, turn_of, turned_by, waiting_turn, world_after}
 use Rattle.world_machine.specs.Worlds.{CollisionData, Event, WorldData, answered_at, attacker_line, hart_line, under_at}
 use Rattle.world_machine.proofs.Kept.{reached_kept}
 use Rattle.world_machine.proofs.LessTurns.{steps_lessen}
@@ -49,9 +50,9 @@ record Rested (digest_of : List ℕ → List ℕ) (w : WorldData) (actor : Actor
   why : Turned
   is : actor_turn digest_of w actor positions ≡ rests why
 
-removing : (w : WorldData) (hart page : ℕ) (o : Option HartSet) → o ≡ None → StillUnlessMoves (unmap_turn w hart page o) (unmap_turn w hart page o)
-removing w hart page None none = tt
-removing w hart page (Some harts) none = cc
+ending : (ended : WorldData) (o : Option HartSet) → o ≡ None → StillUnlessMoves (waiting_turn ended o) (waiting_turn ended o)
+ending ended None none = tt
+ending ended (Some harts) none = cc
 
 acknowledging : (w : WorldData) (hart : ℕ) (o : Option ℕ) → StillUnlessMoves (ack_turn w hart o) (ack_turn w hart o)
 acknowledging w hart None = refl
@@ -69,7 +70,9 @@ module _ (digest_of : List ℕ → List ℕ) (w : WorldData) (nobody : (hart : �
   due_still hart positions (Store va word) (Seeking walk) = tt
   due_still hart positions (Map va page perms) Idle = tt
   due_still hart positions (Unmap va) Idle = tt
-  due_still hart positions (Unmap va) (Removing page) = removing w hart page (lacked_by w hart) (nobody hart)
+  due_still hart positions (Unmap va) (Removing page) = ending (ends_unmap w hart page) (lacked_by w hart) (nobody hart)
+  due_still hart positions (Destroy e) Idle = tt
+  due_still hart positions (Destroy e) Destroying = ending (ends_destroy w hart e) (lacked_by w hart) (nobody hart)
   due_still hart positions (Create e image pages) Idle = tt
   due_still hart positions (Create e image pages) (Putting done) = tt
   due_still hart positions (Run e budget) Idle = tt

@@ -35,6 +35,7 @@ use Rattle.world_machine.specs.Worlds.{WorldData, answered_at, hart_line, under_
 use Rattle.world_machine.proofs.Frames.{flat_pages-same, instruction_stays}
 use Rattle.world_machine.proofs.LineKinds.{goes_on_line, still_line}
 use Rattle.world_machine.proofs.LineMoves.{LineMoves}
+use Rattle.world_machine.proofs.LineTranslations.{isnt_waiting}
 use Rattle.world_machine.proofs.Lists.{changed_set}
 use Rattle.world_machine.proofs.NumberRows.{HartTranslates, becomes_same, but_none, keeps_tlbs, owned_within}
 use Rattle.world_machine.proofs.RowKept.{with_parts}
@@ -52,6 +53,8 @@ stands_over setup before after owners e r n s same = record {
   apart = s.apart;
   owned = s.owned;
   parent = s.parent;
+  spares = s.spares;
+  given = s.given;
   now = s.now;
   alone_is = s.alone_is;
   context = s.context;
@@ -132,7 +135,7 @@ module _ (digest_of : List ℕ → List ℕ) (room_stays : RoomStays) (w : World
         → Kept digest_of (with_parts w ctl w.owners w.enclaves tlbs' w.fences under' w.answered w.history)
     moved under' tlbs' moves translates =
         subst (λ (all : List Enclave). Kept digest_of (with_parts w ctl w.owners all tlbs' w.fences under' w.answered w.history)) same_records
-        (run_moved digest_of w k none hart e.0 there under_way ctl access r n s (becomes_same s e.0) refl refl refl (k.stands.records e.0)
+        (run_moved digest_of w k none hart e.0 there under_way (ap isnt_waiting under) ctl access r n s (becomes_same s e.0) refl refl refl (k.stands.records e.0)
         (stands_over w.setup (written_page w) (page_bytes ctl.mirror) w.owners e.0 r n stands (same_bytes stands.image.pages))
         under' w.answered w.history (Running micro' count) (answered_at w.answered hart) moves own_line
         (λ f own. let now : number_under_way (hart_line w hart) (Running micro' count) ≡ Some e.0 = ap (λ l. number_under_way l (Running micro' count)) here ∙ runs_number first e budget count micro' in

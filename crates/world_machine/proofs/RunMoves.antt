@@ -31,6 +31,7 @@ use Rattle.world_machine.specs.Standing.{Kept, state_of}
 use Rattle.world_machine.specs.TranslationsAgree.{walking, walking_of}
 use Rattle.world_machine.specs.Worlds.{WorldData, hart_line, under_at}
 use Rattle.world_machine.proofs.LineMoves.{LineMoves}
+use Rattle.world_machine.proofs.LineTranslations.{isnt_waiting}
 use Rattle.world_machine.proofs.Lists.{changed_set}
 use Rattle.world_machine.proofs.NumberRows.{AllButOneStay, HartTranslates, IsOfNumber, NumberBecomes, number_row, own_leaves_tables}
 use Rattle.world_machine.proofs.RowKept.{with_parts}
@@ -101,7 +102,7 @@ own_access digest_of w e page ctl k there leaves own stay =
     record { leaves = leaves; page = page; of_number = inl own; stay = stay; tables = own_leaves_tables digest_of w k e there page ctl own stay }
 
 module _ (digest_of : List ℕ → List ℕ) (w : WorldData) (k : Kept digest_of w) (none : w.collision ≡ None) (hart e : ℕ) (there : e < length w.enclaves)
-    (runs : number_under_way (hart_line w hart) (under_at w.under hart) ≡ Some e) (ctl : CtlData) (access : AfterAccess digest_of w e ctl) (r : Enclave) (n : Number) (s' : Monitor)
+    (runs : number_under_way (hart_line w hart) (under_at w.under hart) ≡ Some e) (waited : isnt_waiting (under_at w.under hart) ≡ true) (ctl : CtlData) (access : AfterAccess digest_of w e ctl) (r : Enclave) (n : Number) (s' : Monitor)
     (becomes : NumberBecomes (state_of w) s' e n) (live : n.live ≡ ((state_of w).number e).live) (image : n.image ≡ ((state_of w).number e).image) (pages : n.pages ≡ ((state_of w).number e).pages)
     (agrees : RecordAgrees r n) (stands : EnclaveStands w.setup (page_bytes ctl.mirror) w.owners e r n) where
   -- the run's event keeps what a world keeps, where what is so far of its own line stands
@@ -112,7 +113,7 @@ module _ (digest_of : List ℕ → List ℕ) (w : WorldData) (k : Kept digest_of
       → (tlbs : List (List TlbEntry)) → HartTranslates w hart ctl (with_enclave w.enclaves e r) tlbs (slice_get (script_of w.setup hart) count) u
       → Kept digest_of (with_parts w ctl w.owners (with_enclave w.enclaves e r) tlbs w.fences under answered history)
   run_moved under answered history u count line own_line own_number own_put tlbs own_translates =
-      number_row digest_of w k e (subst (λ m. e < m) k.sizes.numbers there) none hart runs ctl access.leaves access.page access.of_number access.stay
+      number_row digest_of w k e (subst (λ m. e < m) k.sizes.numbers there) none hart runs waited ctl access.leaves access.page access.of_number access.stay
       (with_enclave w.enclaves e r) r (changed_set free_enclave w.enclaves e r there) s' n becomes under answered history u count line agrees stands
       (λ own is now_live k_th few unattacked. access.leaves.still_written _ (k.stands.attacks.live own e (subst (λ ps. Contains ps own) pages is) (sym live ∙ now_live) k_th few unattacked))
       (λ own put. absurd (own_put own put)) own_line own_number

@@ -43,6 +43,7 @@ use Rattle.world_machine.proofs.InstructionWays.{GoesBy, Stops, Way, acts_is, en
 use Rattle.world_machine.proofs.Instructions.{IsFetched, Retires, flat_of}
 use Rattle.world_machine.proofs.LeavingRuns.{IsCounted, leaves_ended, leaves_faulted, leaves_spent, leaves_stopped}
 use Rattle.world_machine.proofs.LineKinds.{answered_line, goes_on_line}
+use Rattle.world_machine.proofs.LineTranslations.{isnt_waiting}
 use Rattle.world_machine.proofs.Lists.{changed_set}
 use Rattle.world_machine.proofs.LiveEnclaves.{IsLive, live_more}
 use Rattle.world_machine.proofs.NumberRows.{becomes_answered, becomes_same, idle_translates, keeps_tlbs}
@@ -100,7 +101,7 @@ module _ (digest_of : List ℕ → List ℕ) (room_stays : RoomStays) (w : World
         let u : Under = Running micro' count' in
         let enclaves' : List Enclave = with_enclave w.enclaves e.0 now in
         let is_now : enclave_at enclaves' e.0 ≡ now = (changed_set free_enclave w.enclaves e.0 now there).here in
-        run_moved digest_of w k none hart e.0 there runs ctl access now n s
+        run_moved digest_of w k none hart e.0 there runs (ap isnt_waiting under) ctl access now n s
         (becomes_same s e.0) refl refl refl agree stands
         (slice_set w.under hart u) w.answered w.history u (answered_at w.answered hart) (goes_on_line digest_of room_stays w k hart below u (sym begun))
         (subst (λ l. LineUnderWay w.setup (page_bytes ctl.mirror) (enclave_at enclaves') s.number hart l u) (sym here)
@@ -123,7 +124,7 @@ module _ (digest_of : List ℕ → List ℕ) (room_stays : RoomStays) (w : World
         → Kept digest_of (leaves (record w { ctl = ctl }) run now count' why)
     leaving why now count' agree stands may =
         let s' : Monitor = answer (left s e.0 count' why) hart in
-        run_moved digest_of w k none hart e.0 there runs ctl access (left_record now why) (left_number n count' why) s'
+        run_moved digest_of w k none hart e.0 there runs (ap isnt_waiting under) ctl access (left_record now why) (left_number n count' why) s'
         (becomes_answered s e.0 hart (left_number n count' why)) refl refl refl agree stands _ _ _ Idle (answered_at w.answered hart + 1)
         (answered_line digest_of room_stays w k hart below (run_line first e budget) (answer_is.Left count' why) refl here
         (subst (λ b. AllowedAnswer w.setup s (run_line first e budget) b (answer_is.Left count' why)) (sym begun) (may_leave w.setup s first e budget count' why (flat_image standing.image, image_is, may)))

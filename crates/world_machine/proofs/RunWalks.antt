@@ -70,7 +70,7 @@ module _ (digest_of : List ℕ → List ℕ) (room_stays : RoomStays) (w : World
         walks_kept digest_of room_stays w k none hart below first e budget count micro here under there w.ctl (no_access digest_of w e.0 k).leaves (still_ctl w.ctl) next stands
         (slice_set w.tlbs hart entries)
         (record {
-          removes_none = refl;
+          waits_none = refl;
           harts = tlb_changes.size;
           tlbs = tlb_changes.others;
           entries = subst (All Fresh) (sym tlb_changes.here) all;

@@ -7,6 +7,7 @@ use Rattle.pl_base.specs.declared.actor.Actor.{Actor}
 use Rattle.pl_base.specs.declared.actor.Actor.TheVariants as actor_is
 use Rattle.pl_base.specs.declared.address.Pa.{Pa}
 use Rattle.pl_base.specs.declared.address.Va.{Va}
+use Rattle.pl_base.specs.declared.number.EncNo.{EncNo}
 use Rattle.pl_base.specs.declared.number.HartSet.{HartSet}
 use Rattle.pl_base.specs.declared.perms.Perms.{Perms}
 use Rattle.pl_base.specs.declared.place.Place.{Place}
@@ -39,19 +40,20 @@ use Rattle.pl_base.specs.declared.refusal.No.TheVariants as refused
 use Rattle.pl_history.specs.declared.line.AttackLine.{AttackLine}
 use Rattle.pl_history.specs.declared.line.AttackLine.TheVariants as attack
 use Rattle.pl_history.specs.declared.line.Line.{Line}
-use Rattle.pl_history.specs.declared.line.Line.TheVariants.{Load as LoadLine, Store as StoreLine, Map, Unmap, Create, Run, Resume, Send, Take, After as AfterLine}
+use Rattle.pl_history.specs.declared.line.Line.TheVariants.{Load as LoadLine, Store as StoreLine, Map, Unmap, Create, Run, Resume, Send, Take, Destroy, After as AfterLine}
 use Rattle.pl_history.specs.declared.setup.SetupParts.{SetupParts}
 use Rattle.pl_history.specs.Protection.{pmp_of}
 use Rattle.world_machine.specs.declared.under.Under.{Under}
-use Rattle.world_machine.specs.declared.under.Under.TheVariants.{Idle, Putting, Removing, Running, Seeking}
+use Rattle.world_machine.specs.declared.under.Under.TheVariants.{Idle, Seeking, Removing, Destroying, Putting, Running}
 use Rattle.world_machine.specs.Acknowledging.{acknowledged, owed}
 use Rattle.world_machine.specs.Answering.{accesses, answers, decided, goes_on, quiet}
+use Rattle.world_machine.specs.GivingBack.{destroys_unless, ends_destroy}
 use Rattle.world_machine.specs.HostAccessing.{WordAccess, accesses_host, begins_access, host_faults, host_learns, host_request, kind_of, loads, made, reaches_host, stores}
-use Rattle.world_machine.specs.HostMapping.{begins_unmap, lacked_by, mapped, maps, unmapped}
+use Rattle.world_machine.specs.HostMapping.{begins_unmap, ends_unmap, lacked_by, mapped, maps, unmapped}
 use Rattle.world_machine.specs.Making.{begins_unless, image_of}
 use Rattle.world_machine.specs.Pages.{part_of_word, word_offset}
 use Rattle.world_machine.specs.Running.{RunNow, acts, calls, faults, fetched_in, loads_in, retired_with, reaches, receives, retires, run_event, run_learns, run_request, run_translates, stores_in}
-use Rattle.world_machine.specs.Steps.{Step, StepOf, Turn, ack_turn, actor_turn, attacker_turn, due, hart_turn, moves, rests, stepped, turn_of, unmap_turn, world_after}
+use Rattle.world_machine.specs.Steps.{Step, StepOf, Turn, ack_turn, actor_turn, attacker_turn, due, hart_turn, moves, rests, stepped, turn_of, waiting_turn, world_after}
 use Rattle.world_machine.specs.Talking.{changes_unless}
 use Rattle.world_machine.specs.Translating.{Request, offset_at, page_at, reads_table, sought_in, translated}
 use Rattle.world_machine.specs.Worlds.{Event, WorldData, attacker_line, hart_line, tlb_at, under_at, with_tlb}
@@ -107,6 +109,10 @@ acknowledged_setup w hart requester (Some fence) = refl
 begins_setup : (o : Option No) (w : WorldData) (hart : ℕ) (u : Under) → KeepsSetup w.setup (begins_unless o w hart u)
 begins_setup None w hart u = refl
 begins_setup (Some cause) w hart u = refl
+
+destroys_setup : (o : Option No) (w : WorldData) (hart : ℕ) (e : EncNo) → KeepsSetup w.setup (destroys_unless o w hart e)
+destroys_setup None w hart e = refl
+destroys_setup (Some cause) w hart e = refl
 
 changes_setup : (o : Option No) (w : WorldData) (hart e : ℕ) (r : Enclave) (now : Answer) → KeepsSetup w.setup (changes_unless o w hart e r now)
 changes_setup None w hart e r now = refl
@@ -227,9 +233,9 @@ module _ (digest_of : List ℕ → List ℕ) where
   waiting setup true event why same = same
   waiting setup false event why same = tt
 
-  removing_setup : (w : WorldData) (hart page : ℕ) (o : Option HartSet) → TurnKeepsSetup w.setup (unmap_turn w hart page o)
-  removing_setup w hart page None = refl
-  removing_setup w hart page (Some harts) = tt
+  ending : (setup : SetupParts) (ended : WorldData) (o : Option HartSet) → KeepsSetup setup ended → TurnKeepsSetup setup (waiting_turn ended o)
+  ending setup ended None same = same
+  ending setup ended (Some harts) same = tt
 
   ack_setup : (w : WorldData) (hart : ℕ) (o : Option ℕ) → TurnKeepsSetup w.setup (ack_turn w hart o)
   ack_setup w hart None = tt
@@ -242,7 +248,9 @@ module _ (digest_of : List ℕ → List ℕ) where
   due_setup w hart positions (StoreLine va word) (Seeking walk) = access_setup w hart positions va (stores word) walk
   due_setup w hart positions (Map va page perms) Idle = maps_setup w hart positions va page perms
   due_setup w hart positions (Unmap va) Idle = begins_unmap_setup w hart positions va
-  due_setup w hart positions (Unmap va) (Removing page) = removing_setup w hart page (lacked_by w hart)
+  due_setup w hart positions (Unmap va) (Removing page) = ending w.setup (ends_unmap w hart page) (lacked_by w hart) refl
+  due_setup w hart positions (Destroy e) Idle = destroys_setup _ _ hart e
+  due_setup w hart positions (Destroy e) Destroying = ending w.setup (ends_destroy w hart e) (lacked_by w hart) refl
   due_setup w hart positions (Create e image pages) Idle = begins_setup _ _ hart _
   due_setup w hart positions (Create e image pages) (Putting done) =
       let step : CreatePut = create_put digest_of w.setup.tables e.0 (image_of w.setup image) false done w.enclaves (going w.ctl positions) in

@@ -42,11 +42,13 @@ pub record ComesTo (setup : SetupParts) (bytes_of : ℕ → List ℕ) (image : I
   pub pages : now.pages ≡ flat_pages bytes_of image.pages (numbers_of r.pages)
   pub live : n.live ≡ true
 
--- and keeps its image, its pages and that it wasn't forked
+-- and keeps its image, its pages, that it wasn't forked, and its spares
 pub record KeepsPages (r now : Enclave) : Type 0 where
   pub image : now.image ≡ r.image
   pub pages : now.pages ≡ r.pages
   pub parent : now.parent ≡ r.parent
+  pub spares : now.spares ≡ r.spares
+  pub given : now.given ≡ r.given
 
 module _ (setup : SetupParts) (before after : ℕ → List ℕ) (owners : List Owner) (e : ℕ) (r : Enclave) (n : Number) (s : EnclaveStands setup before owners e r n) where
   pub stands_as : (r' : Enclave) (n' : Number) (now : Flat) → KeepsPages r r' → ComesTo setup after s.image r' n' now → EnclaveStands setup after owners e r' n'
@@ -58,6 +60,8 @@ module _ (setup : SetupParts) (before after : ℕ → List ℕ) (owners : List O
     apart = ap (λ ps. first_twice (numbers_of ps)) kept.pages ∙ s.apart;
     owned = subst (λ ps. All (IsOwn owners e) (numbers_of ps)) (sym kept.pages) s.owned;
     parent = kept.parent ∙ s.parent;
+    spares = kept.spares ∙ s.spares;
+    given = kept.given ∙ s.given;
     now = now;
     alone_is = comes.alone_is;
     context = comes.context;
@@ -86,7 +90,7 @@ module _ (setup : SetupParts) (memory new : List ℕ) (owners : List Owner) (e :
       let shown : now.shown ≡ r.shown = ap (λ (x : Enclave). x.shown) retires.kept in
       let taken : now.taken ≡ r.taken = ap (λ (x : Enclave). x.taken) retires.kept in
       stands_as setup (page_bytes memory) (page_bytes new) owners e r n s now n (flat_of (page_bytes new) s.image.pages now)
-      (record { image = ap (λ (x : Enclave). x.image) retires.kept; pages = same_pages r now retires.kept; parent = ap (λ (x : Enclave). x.parent) retires.kept })
+      (record { image = ap (λ (x : Enclave). x.image) retires.kept; pages = same_pages r now retires.kept; parent = ap (λ (x : Enclave). x.parent) retires.kept; spares = ap (λ (x : Enclave). x.spares) retires.kept; given = ap (λ (x : Enclave). x.given) retires.kept })
       (record {
         alone_is = live.alone_is;
         context = refl;
@@ -143,7 +147,7 @@ module _ (setup : SetupParts) (memory : List ℕ) (owners : List Owner) (e : ℕ
   -- with its image on: its budget is spent, it waits, is full, traps, or a place faults
   pub stands_left : (why : Why) → IsLive s.image memory r → IsCounted r n count → EnclaveStands setup (page_bytes memory) owners e (left_record r why) (left_number n count why)
   stands_left why live counted =
-      left_as why (left_record r why) (flat_of (page_bytes memory) s.image.pages r) (record { image = refl; pages = refl; parent = refl }) (all_few s.taken_few s.shown_few) refl counted.sent counted.retired live.alone_is refl refl refl (on_stands (state_left why)) live.aligned refl
+      left_as why (left_record r why) (flat_of (page_bytes memory) s.image.pages r) (record { image = refl; pages = refl; parent = refl; spares = refl; given = refl }) (all_few s.taken_few s.shown_few) refl counted.sent counted.retired live.alone_is refl refl refl (on_stands (state_left why)) live.aligned refl
 
   -- with its image ended
   pub stands_ended : (code before : ℕ) → IsLive s.image memory r → IsCounted r n before → count ≡ before + 1
@@ -151,7 +155,7 @@ module _ (setup : SetupParts) (memory : List ℕ) (owners : List Owner) (e : ℕ
       → EnclaveStands setup (page_bytes memory) owners e (left_record (retired_with r r.context) (why_is.Ended code)) (left_number n count (why_is.Ended code))
   stands_ended code before live counted more is =
       left_as (why_is.Ended code) (left_record (retired_with r r.context) (why_is.Ended code)) (record (flat_of (page_bytes memory) s.image.pages r) { status = ended code })
-      (record { image = refl; pages = refl; parent = refl }) (all_few s.taken_few s.shown_few) refl counted.sent (one_more counted.retired) is refl refl refl tt live.aligned refl
+      (record { image = refl; pages = refl; parent = refl; spares = refl; given = refl }) (all_few s.taken_few s.shown_few) refl counted.sent (one_more counted.retired) is refl refl refl tt live.aligned refl
     where
       one_more : r.retired ≡ n.retired + before → r.retired + 1 ≡ n.retired + count
       one_more so_far = omega arith

@@ -1,5 +1,5 @@
 -- The rows of `send` and `take`.
-use Rattle.std.proofs.Common.{◌≡◌, ◌≢◌, ℕ, ◌+◌, ◌<◌, false, List, [], length, slice_get, Option, Some, None, refl, sym, ap, ◌∙◌, subst}
+use Rattle.std.proofs.Common.{◌≡◌, ◌≢◌, ℕ, ◌+◌, ◌<◌, true, false, List, length, slice_get, Option, Some, None, refl, sym, ap, ◌∙◌, subst}
 use Rattle.std.specs.Prelude.{slice_set}
 use Rattle.pl_base.specs.States.{is_free}
 use Rattle.rv_hart.specs.declared.walks.Micro.{Micro}
@@ -10,18 +10,17 @@ use Rattle.mon_enclave.specs.declared.enclave.Enclave.{Enclave}
 use Rattle.mon_enclave.specs.Records.{enclave_at, free_enclave, with_enclave}
 use Rattle.pl_history.specs.declared.answer.Answer.{Answer}
 use Rattle.pl_history.specs.declared.line.Line.{Line}
-use Rattle.pl_history.specs.declared.line.Line.TheVariants.{Load, Store, Unmap, Create, Run, Resume}
+use Rattle.pl_history.specs.declared.line.Line.TheVariants.{Load, Store, Unmap, Create, Run, Resume, Destroy}
 use Rattle.pl_history.specs.declared.setup.SetupParts.{SetupParts}
 use Rattle.pl_history.specs.History.{part_end}
 use Rattle.pl_history.specs.Legal.{AllowedAnswer, after_answer}
 use Rattle.pl_history.specs.Monitor.{Monitor, Number, answer, script_of, with_number}
 use Rattle.world_attack.specs.Room.{RoomStays}
 use Rattle.world_machine.specs.declared.under.Under.{Under}
-use Rattle.world_machine.specs.declared.under.Under.TheVariants.{Idle, Seeking, Removing, Putting, Running}
+use Rattle.world_machine.specs.declared.under.Under.TheVariants.{Idle, Seeking, Removing, Destroying, Putting, Running}
 use Rattle.world_machine.specs.Answering.{answers}
 use Rattle.world_machine.specs.BytesAgree.{HasPut}
 use Rattle.world_machine.specs.EnclavesAgree.{EnclaveStands, EnclavesAgree}
-use Rattle.world_machine.specs.FencesStand.{removals_by}
 use Rattle.world_machine.specs.LinesUnderWay.{HasBytes, InstructionStands, IsRunning, LineUnderWay}
 use Rattle.world_machine.specs.Making.{image_of}
 use Rattle.world_machine.specs.RecordsAgree.{RecordAgrees, RecordsAgree, is_begun}
@@ -30,7 +29,7 @@ use Rattle.world_machine.specs.TranslationsAgree.{IsFresh, WalkingStands, walkin
 use Rattle.world_machine.specs.Worlds.{WorldData, answered_at, hart_line, under_at}
 use Rattle.world_machine.proofs.Frames.{instruction_stays}
 use Rattle.world_machine.proofs.LineKinds.{answered_line}
-use Rattle.world_machine.proofs.LineTranslations.{idle_walks, isnt_removing}
+use Rattle.world_machine.proofs.LineTranslations.{idle_walks, isnt_waiting}
 use Rattle.world_machine.proofs.Lists.{ChangedAt, changed_set, everywhere, if_other, if_same}
 use Rattle.world_machine.proofs.QuietRows.{attacks_live, idle_has_none, idle_put_none, none_some}
 use Rattle.world_machine.proofs.RowKept.{line_after, row_kept}
@@ -80,6 +79,7 @@ module _ (setup : SetupParts) (bytes : ℕ → List ℕ) (rec rec' : ℕ → Enc
   }
   line_words hart (Some (Run f budget)) (Running micro count) k = running_words f.0 hart budget count micro k
   line_words hart (Some (Resume f budget)) (Running micro count) k = running_words f.0 hart budget count micro k
+  line_words hart (Some (Destroy f)) Destroying k = (same f.0).state ∙ k
   line_words hart line under k = elim k [ ]
 
 module _ (digest_of : List ℕ → List ℕ) (room_stays : RoomStays) (w : WorldData) (k : Kept digest_of w) (none : w.collision ≡ None) (hart : ℕ) (below : hart < w.setup.harts)
@@ -90,7 +90,7 @@ module _ (digest_of : List ℕ → List ℕ) (room_stays : RoomStays) (w : World
     (words : SameButWords (enclave_at w.enclaves e) r) (retired : n.retired ≡ ((state_of w).number e).retired) (live : n.live ≡ ((state_of w).number e).live)
     (agrees : RecordAgrees r n)
     (stands : is_free (enclave_at w.enclaves e).state ≡ false → EnclaveStands w.setup (written_page w) w.owners e r n)
-    (no_removal : removals_by (state_of w).removals hart ≡ []) where
+    (waited : isnt_waiting (under_at w.under hart) ≡ true) where
   abbrev s : Monitor
   s = state_of w
 
@@ -181,8 +181,8 @@ module _ (digest_of : List ℕ → List ℕ) (room_stays : RoomStays) (w : World
           contexts = λ other f differs is. (all_words f).context;
           harts = refl;
           tlbs = λ other differs. refl;
-          none_removed = no_removal;
-          removes_none = ap isnt_removing moves.under_change.here;
+          waited_none = waited;
+          waits_none = ap isnt_waiting moves.under_change.here;
           entries = entries_stay digest_of w k w.ctl (enclave_at enclaves') w.owners s' spaces hart;
           walk = subst (λ u. WalkingStands w.ctl (IsFresh w.setup s' w.fences hart) (walking w.setup.tables (enclave_at enclaves') (line_after w (slice_set w.answered hart (answered_at w.answered hart + 1)) hart) u))
               (sym moves.under_change.here) (idle_walks w.ctl (IsFresh w.setup s' w.fences hart) w.setup.tables (enclave_at enclaves') _);

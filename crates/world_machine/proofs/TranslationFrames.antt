@@ -1,8 +1,9 @@
 -- An event that leaves the fences, the host's space and the removals leaves the translations, where the tables' pages of live numbers stay.
-use Rattle.std.proofs.Common.{◌≡◌, ◌≢◌, ℕ, ◌+◌, ◌*◌, ◌<◌, ◌≤◌, leb, Bool, true, false, List, [], length, map, Option, Some, refl, ap, sym, ◌∙◌, subst, arith, inl, inr}
+use Rattle.std.proofs.Common.{◌≡◌, ◌≢◌, ℕ, ◌+◌, ◌*◌, ◌<◌, ◌≤◌, leb, Bool, true, false, List, [], length, map, unwrap_or, Option, Some, refl, ap, sym, ◌∙◌, subst, arith, inl, inr}
 use Rattle.std.specs.List.{All}
 use Rattle.std.proofs.lemmas.Bool.{and_parts, false≢true, leb-true}
 use Rattle.std.proofs.lemmas.List.Elements.{All-weaker}
+use Rattle.std.proofs.lemmas.Option.{slice_get_past}
 use Rattle.pl_base.specs.declared.state.State.{State}
 use Rattle.pl_base.specs.declared.state.State.TheVariants as state_is
 use Rattle.pl_base.specs.States.{is_free}
@@ -15,6 +16,7 @@ use Rattle.mem_geom.specs.Parts.{page_bytes}
 use Rattle.mon_enclave.specs.declared.enclave.Enclave.{Enclave}
 use Rattle.mon_enclave.specs.declared.enclave.PageKind.TheVariants.{Own}
 use Rattle.mon_enclave.specs.Records.{enclave_at}
+use Rattle.mon_fence.specs.Fences.{fence_of}
 use Rattle.mon_host.specs.Laws.{mirror_words}
 use Rattle.mon_life.specs.Pages.{leaves_of}
 use Rattle.mon_owner.specs.declared.owners.Owner.{Owner}
@@ -28,7 +30,7 @@ use Rattle.pl_history.specs.Rules.{guarded_of, pages_of}
 use Rattle.world_machine.specs.declared.under.Under.{Under}
 use Rattle.world_machine.specs.declared.under.Under.TheVariants.{Idle}
 use Rattle.world_machine.specs.EnclavesAgree.{EnclaveStands, EnclavesAgree}
-use Rattle.world_machine.specs.FencesStand.{FencesStand, RemovalStands, removals_by}
+use Rattle.world_machine.specs.FencesStand.{FencesStand, GivingStands, IsOfHost, RemovalStands, removals_by}
 use Rattle.world_machine.specs.LinesUnderWay.{number_under_way}
 use Rattle.world_machine.specs.Making.{image_of}
 use Rattle.world_machine.specs.RecordsAgree.{LiveAgrees, RecordAgrees, RecordsAgree}
@@ -36,7 +38,7 @@ use Rattle.world_machine.specs.Standing.{Kept, state_of, written_page}
 use Rattle.world_machine.specs.TablesAgree.{TablesAgree}
 use Rattle.world_machine.specs.TranslationsAgree.{IsFresh, MayUse, TranslationsStand, WalkingStands, space_of, walking}
 use Rattle.world_machine.specs.Worlds.{WorldData, hart_line, tlb_at, under_at}
-use Rattle.world_machine.proofs.LineTranslations.{idle_walks, isnt_removing, line_walks, none_removed, number_removes_none, removes_none}
+use Rattle.world_machine.proofs.LineTranslations.{gives_none, idle_walks, isnt_waiting, line_walks, none_given, none_removed, removes_none}
 use Rattle.world_machine.proofs.Lists.{everywhere}
 use Rattle.world_machine.proofs.NumberSpaces.{space_is}
 use Rattle.world_machine.proofs.SetupFacts.{guarded_few, table_guarded, used_there}
@@ -77,13 +79,37 @@ module _ (digest_of : List ℕ → List ℕ) (w : WorldData) (k : Kept digest_of
   abbrev s : Monitor
   s = state_of w
 
-  -- ---- what a hart's line takes away
+  -- ---- what a hart's line takes away or gives back
 
-  pub removal_so : (hart : ℕ) (under : Under) → under_at w.under hart ≡ under → isnt_removing under ≡ true → removals_by s.removals hart ≡ []
-  removal_so hart under so_far is = none_removed (hart_line w hart) (under_at w.under hart) (removals_by s.removals hart) (ap isnt_removing so_far ∙ is) (k.stands.translations.removals hart)
+  pub removal_so : (hart : ℕ) (under : Under) → under_at w.under hart ≡ under → isnt_waiting under ≡ true → removals_by s.removals hart ≡ []
+  removal_so hart under so_far is = none_removed (hart_line w hart) (under_at w.under hart) (removals_by s.removals hart) (ap isnt_waiting so_far ∙ is) (k.stands.translations.removals hart)
 
-  pub number_removal : (hart e : ℕ) → number_under_way (hart_line w hart) (under_at w.under hart) ≡ Some e → removals_by s.removals hart ≡ []
-  number_removal hart e is = number_removes_none (hart_line w hart) (under_at w.under hart) e (removals_by s.removals hart) is (k.stands.translations.removals hart)
+  pub giving_so : (hart : ℕ) → isnt_waiting (under_at w.under hart) ≡ true → IsOfHost (fence_of w.fences hart)
+  giving_so hart is = none_given (hart_line w hart) (under_at w.under hart) (fence_of w.fences hart) is (k.stands.translations.giving hart)
+
+  -- the line of one hart moves, and waits neither before nor after: all harts' lines still have the removals and the fences that they should
+  module _ (actor : ℕ) (line' : ℕ → Option Line) (under' : ℕ → Under) (lines : (hart : ℕ) → hart ≢ actor → line' hart ≡ hart_line w hart)
+      (unders : (hart : ℕ) → hart ≢ actor → under' hart ≡ under_at w.under hart) (waited : isnt_waiting (under_at w.under actor) ≡ true) (waits : isnt_waiting (under' actor) ≡ true) where
+    pub removals_stay : (hart : ℕ) → RemovalStands (line' hart) (under' hart) (removals_by s.removals hart)
+    removals_stay = everywhere (λ h. RemovalStands (line' h) (under' h) (removals_by s.removals h)) actor
+        (removes_none (line' actor) (under' actor) (removals_by s.removals actor) waits (removal_so actor (under_at w.under actor) refl waited))
+        (λ h other. subst (λ l. RemovalStands l (under' h) (removals_by s.removals h)) (sym (lines h other))
+        (subst (λ u. RemovalStands (hart_line w h) u (removals_by s.removals h)) (sym (unders h other)) (k.stands.translations.removals h)))
+
+    pub giving_stays : (hart : ℕ) → GivingStands (line' hart) (under' hart) (fence_of w.fences hart)
+    giving_stays = everywhere (λ h. GivingStands (line' h) (under' h) (fence_of w.fences h)) actor
+        (gives_none (line' actor) (under' actor) (fence_of w.fences actor) waits (giving_so actor waited))
+        (λ h other. subst (λ l. GivingStands l (under' h) (fence_of w.fences h)) (sym (lines h other))
+        (subst (λ u. GivingStands (hart_line w h) u (fence_of w.fences h)) (sym (unders h other)) (k.stands.translations.giving h)))
+
+  -- ---- a hart that there isn't
+
+  -- it has no translations, and no line under way
+  pub tlb_past : (hart : ℕ) → w.setup.harts ≤ hart → tlb_at w.tlbs hart ≡ []
+  tlb_past hart past = ap (λ o. unwrap_or o []) (slice_get_past w.tlbs hart (let size : length w.tlbs ≡ w.setup.harts = k.stands.translations.harts in omega arith))
+
+  pub under_past : (hart : ℕ) → w.setup.harts ≤ hart → under_at w.under hart ≡ Idle
+  under_past hart past = ap (λ o. unwrap_or o Idle) (slice_get_past w.under hart (let size : length w.under ≡ w.setup.harts = k.sizes.harts in omega arith))
 
   -- ---- what a setup's rules say of the tables
 
@@ -187,8 +213,10 @@ module _ (digest_of : List ℕ → List ℕ) (w : WorldData) (k : Kept digest_of
         e = of_number.e;
         mapping = of_number.mapping;
         is = of_number.is;
-        live = (spaces.numbers of_number.e of_number.live).live;
-        there = ap (λ space. mapping_at space of_number.mapping.vpn) (space_stays of_number.e of_number.live) ∙ of_number.there;
+        fresh = elim of_number.fresh [
+          | inl used ↦ inl ((spaces.numbers of_number.e used.0).live, ap (λ space. mapping_at space of_number.mapping.vpn) (space_stays of_number.e used.0) ∙ used.1)
+          | inr leaving ↦ inr leaving
+        ];
       })
 
       -- and so may those of a TLB
@@ -226,15 +254,15 @@ module _ (digest_of : List ℕ → List ℕ) (w : WorldData) (k : Kept digest_of
             w.setup (written_page w) (enclave_at w.enclaves) rec' k.stands.records hart (hart_line w hart) (under_at w.under hart) (k.stands.lines hart) same (k.stands.translations.fresh.walks hart)
 
         module _ (actor : ℕ) (tlbs' : List (List TlbEntry)) (line' : ℕ → Option Line) (under' : ℕ → Under) where
-          -- the lines and translations of all harts but one stay; that one takes nothing away, and its translations and its walk stand
+          -- the lines and translations of all harts but one stay; that one waits for nobody, and its translations and its walk stand
           pub record OneHartMoves : Type 0 where
             pub lines : (hart : ℕ) → hart ≢ actor → line' hart ≡ hart_line w hart
             pub unders : (hart : ℕ) → hart ≢ actor → under' hart ≡ under_at w.under hart
             pub contexts : (hart f : ℕ) → hart ≢ actor → number_under_way (hart_line w hart) (under_at w.under hart) ≡ Some f → (rec' f).context ≡ (enclave_at w.enclaves f).context
             pub harts : length tlbs' ≡ length w.tlbs
             pub tlbs : (hart : ℕ) → hart ≢ actor → tlb_at tlbs' hart ≡ tlb_at w.tlbs hart
-            pub none_removed : removals_by s.removals actor ≡ []
-            pub removes_none : isnt_removing (under' actor) ≡ true
+            pub waited_none : isnt_waiting (under_at w.under actor) ≡ true
+            pub waits_none : isnt_waiting (under' actor) ≡ true
             pub entries : All (IsFresh w.setup s' w.fences actor) (tlb_at tlbs' actor)
             pub walk : WalkingStands c (IsFresh w.setup s' w.fences actor) (walking w.setup.tables rec' (line' actor) (under' actor))
 
@@ -244,10 +272,8 @@ module _ (digest_of : List ℕ → List ℕ) (w : WorldData) (k : Kept digest_of
             harts = m.harts ∙ k.stands.translations.harts;
             fences_stand = subst (FencesStand w.setup.harts w.fences) (sym spaces.removals) k.stands.translations.fences_stand;
             removals = λ hart. subst (λ (all : List Removal). RemovalStands (line' hart) (under' hart) (removals_by all hart)) (sym spaces.removals)
-                (everywhere (λ h. RemovalStands (line' h) (under' h) (removals_by s.removals h)) actor
-                (removes_none (line' actor) (under' actor) (removals_by s.removals actor) m.removes_none m.none_removed)
-                (λ h other. subst (λ l. RemovalStands l (under' h) (removals_by s.removals h)) (sym (m.lines h other))
-                (subst (λ u. RemovalStands (hart_line w h) u (removals_by s.removals h)) (sym (m.unders h other)) (k.stands.translations.removals h))) hart);
+                (removals_stay actor line' under' m.lines m.unders m.waited_none m.waits_none hart);
+            giving = giving_stays actor line' under' m.lines m.unders m.waited_none m.waits_none;
             fresh = record {
               entries = everywhere (λ h. All (IsFresh w.setup s' w.fences h) (tlb_at tlbs' h)) actor m.entries
                   (λ h other. subst (All (IsFresh w.setup s' w.fences h)) (sym (m.tlbs h other)) (entries_stay h));
@@ -265,7 +291,7 @@ module _ (digest_of : List ℕ → List ℕ) (w : WorldData) (k : Kept digest_of
   -- an event that changes no number and no written byte, after which the actor's line hasn't begun
   module _ (c : CtlData) (mirror : c.mirror ≡ w.ctl.mirror) (s' : Monitor) (space : s'.space ≡ s.space) (removals : s'.removals ≡ s.removals) (number : s'.number ≡ s.number)
       (actor : ℕ) (line' : ℕ → Option Line) (under' : ℕ → Under) (lines : (hart : ℕ) → hart ≢ actor → line' hart ≡ hart_line w hart) (unders : (hart : ℕ) → hart ≢ actor → under' hart ≡ under_at w.under hart)
-      (no_removal : removals_by s.removals actor ≡ []) (idle : under' actor ≡ Idle) where
+      (waited : isnt_waiting (under_at w.under actor) ≡ true) (idle : under' actor ≡ Idle) where
     quiet_spaces : SpacesStay c (enclave_at w.enclaves) w.owners s'
     quiet_spaces = record {
       space = space;
@@ -290,8 +316,8 @@ module _ (digest_of : List ℕ → List ℕ) (w : WorldData) (k : Kept digest_of
       contexts = λ hart f other is. refl;
       harts = refl;
       tlbs = λ hart other. refl;
-      none_removed = no_removal;
-      removes_none = ap isnt_removing idle;
+      waited_none = waited;
+      waits_none = ap isnt_waiting idle;
       entries = entries_stay c (enclave_at w.enclaves) w.owners s' quiet_spaces actor;
       walk = subst (λ u. WalkingStands c (IsFresh w.setup s' w.fences actor) (walking w.setup.tables (enclave_at w.enclaves) (line' actor) u)) (sym idle)
           (idle_walks c (IsFresh w.setup s' w.fences actor) w.setup.tables (enclave_at w.enclaves) (line' actor));

@@ -4,11 +4,11 @@ use Rattle.pl_base.specs.States.{is_free}
 use Rattle.mon_enclave.specs.declared.enclave.Enclave.{Enclave}
 use Rattle.mon_enclave.specs.declared.enclave.PageKind.TheVariants.{Own}
 use Rattle.pl_history.specs.declared.line.Line.{Line}
-use Rattle.pl_history.specs.declared.line.Line.TheVariants.{Create, Run, Resume}
+use Rattle.pl_history.specs.declared.line.Line.TheVariants.{Create, Run, Resume, Destroy}
 use Rattle.pl_history.specs.declared.setup.SetupParts.{SetupParts}
 use Rattle.pl_history.specs.Monitor.{Number}
 use Rattle.world_machine.specs.declared.under.Under.{Under}
-use Rattle.world_machine.specs.declared.under.Under.TheVariants.{Putting, Running}
+use Rattle.world_machine.specs.declared.under.Under.TheVariants.{Destroying, Putting, Running}
 use Rattle.world_machine.specs.LinesUnderWay.{LineUnderWay, number_under_way}
 use Rattle.world_machine.specs.Pages.{numbers_of}
 
@@ -24,6 +24,8 @@ line_used setup bytes rec number hart (Some (Run e budget)) (Running micro count
     subst (λ g. is_free (rec g).state ≡ false) (some_same e.0 f is) (ap is_free k.state)
 line_used setup bytes rec number hart (Some (Resume e budget)) (Running micro count) f k is =
     subst (λ g. is_free (rec g).state ≡ false) (some_same e.0 f is) (ap is_free k.state)
+line_used setup bytes rec number hart (Some (Destroy e)) Destroying f k is =
+    subst (λ g. is_free (rec g).state ≡ false) (some_same e.0 f is) (ap is_free k)
 line_used setup bytes rec number hart line under f k is = cc
 
 pub own_numbers : (pages : List ℕ) → numbers_of (map Own pages) ≡ pages

@@ -6,6 +6,7 @@ use Rattle.std.proofs.lemmas.List.Elements.{All-weaker}
 use Rattle.pl_base.specs.declared.address.Va.{Va}
 use Rattle.mon_enclave.specs.Records.{enclave_at}
 use Rattle.mon_fence.specs.declared.fences.Fence.{Fence}
+use Rattle.mon_fence.specs.Fences.{fence_of}
 use Rattle.mon_host.specs.Laws.{new_mapping}
 use Rattle.mon_host.specs.Unmapping as unmapping_is
 use Rattle.mon_host.specs.Unmapping.{unmap_ended}
@@ -20,20 +21,21 @@ use Rattle.pl_history.specs.Monitor.{Monitor, answer, maps_of, script_of}
 use Rattle.world_attack.specs.Room.{RoomStays}
 use Rattle.world_machine.specs.declared.under.Under.TheVariants.{Idle, Removing}
 use Rattle.world_machine.specs.Answering.{answers, entry_now, with_entry}
-use Rattle.world_machine.specs.FencesStand.{RemovalStands, removals_by}
+use Rattle.world_machine.specs.FencesStand.{GivingStands, IsOfHost, RemovalStands, removals_by}
 use Rattle.world_machine.specs.HostMapping.{ends_unmap, lacked_by}
 use Rattle.world_machine.specs.RecordsAgree.{is_begun}
 use Rattle.world_machine.specs.Standing.{Kept, state_of}
 use Rattle.world_machine.specs.TranslationsAgree.{IsFresh, MayUse, WalkingStands, walking}
 use Rattle.world_machine.specs.Worlds.{WorldData, answered_at, hart_line, tlb_at, under_at}
-use Rattle.world_machine.proofs.Freshness.{ended_used}
+use Rattle.world_machine.proofs.Freshness.{ended_used, leaving_still}
 use Rattle.world_machine.proofs.HostOwners.{host_counted, is_host-host, remapped_agree, remapped_guards, remapped_pool, remapped_stays, removed_less, without_map-is}
 use Rattle.world_machine.proofs.HostRows.{HostFrame, host_row}
 use Rattle.world_machine.proofs.HostSpaces.{removed_host}
 use Rattle.world_machine.proofs.HostChanges.{HostChange, fresh_by, host_changed}
+use Rattle.world_machine.proofs.Leaving.{giving_set}
 use Rattle.world_machine.proofs.LineKinds.{answered_line}
 use Rattle.world_machine.proofs.LineMoves.{LineMoves}
-use Rattle.world_machine.proofs.LineTranslations.{idle_walks, removes_none}
+use Rattle.world_machine.proofs.LineTranslations.{gives_none, idle_walks, removes_none}
 use Rattle.world_machine.proofs.QuietRows.{idle_has_none, idle_put_none}
 use Rattle.world_machine.proofs.Removals.{removals_by-ended, removals_by-ended_other}
 use Rattle.world_machine.proofs.RowKept.{line_after}
@@ -99,6 +101,10 @@ module _ (digest_of : List ℕ → List ℕ) (room_stays : RoomStays) (w : World
   used : (other : ℕ) (m : Mapping) → MayUse s w.fences other m → MayUse s' fences' other m
   used = ended_used s s' w.fences hart refl refl nobody
 
+  of_host : IsOfHost (fence_of w.fences hart)
+  of_host = subst (λ u. GivingStands (Some (Unmap va)) u (fence_of w.fences hart)) so_far
+      (subst (λ l. GivingStands l (under_at w.under hart) (fence_of w.fences hart)) here (k.stands.translations.giving hart))
+
   change : HostChange w hart w.ctl w.tlbs fences' s' (line_after w (slice_set w.answered hart (answered_at w.answered hart + 1))) (under_at (slice_set w.under hart Idle))
   change = record {
     host = k.stands.translations.tables.host;
@@ -109,7 +115,10 @@ module _ (digest_of : List ℕ → List ℕ) (room_stays : RoomStays) (w : World
         (removes_none _ Idle (removals_by s'.removals hart) refl (removals_by-ended s.removals hart));
     others = λ other differs. refl;
     used = λ other there differs. used other;
-    own = All-weaker (IsFresh w.setup s w.fences hart) (IsFresh w.setup s' fences' hart) (fresh_by w.setup s s' w.fences fences' hart (λ e. refl) (used hart)) (tlb_at w.tlbs hart)
+    leaving = λ other there differs. leaving_still w.fences hart None of_host other;
+    giving = giving_set digest_of w k hart below None _ _ (λ other differs. ap (slice_get (script_of w.setup other)) (moves.answered_change.others other differs)) moves.under_change.others
+        (subst (λ u. GivingStands (line_after w (slice_set w.answered hart (answered_at w.answered hart + 1)) hart) u None) (sym moves.under_change.here) (gives_none _ Idle None refl tt));
+    own = All-weaker (IsFresh w.setup s w.fences hart) (IsFresh w.setup s' fences' hart) (fresh_by w.setup s s' w.fences fences' hart (λ e. refl) (used hart) (leaving_still w.fences hart None of_host hart)) (tlb_at w.tlbs hart)
         (k.stands.translations.fresh.entries hart);
     lines = λ other differs. ap (slice_get (script_of w.setup other)) (moves.answered_change.others other differs);
     unders = moves.under_change.others;

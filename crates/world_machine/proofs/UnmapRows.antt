@@ -7,6 +7,7 @@ use Rattle.pl_base.specs.Address.{vpn_of}
 use Rattle.pl_base.specs.declared.address.Va.{Va}
 use Rattle.pl_base.specs.declared.address.Vpn.{Vpn}
 use Rattle.pl_base.specs.declared.place.Place.{Place}
+use Rattle.pl_base.specs.HartSet.{harts_below, without_hart}
 use Rattle.pl_base.specs.declared.refusal.No.{No}
 use Rattle.pl_base.specs.declared.refusal.No.TheVariants as refused
 use Rattle.rv_tlb.specs.Tlb.{is_of}
@@ -17,7 +18,7 @@ use Rattle.mem_ctl.specs.Data.{CtlData, Going, Outcome, Value, Fault, Collision,
 use Rattle.mem_geom.specs.Parts.{page_bytes}
 use Rattle.mon_enclave.specs.Records.{enclave_at}
 use Rattle.mon_fence.specs.declared.fences.Fence.{Fence}
-use Rattle.mon_fence.specs.Fences.{posted}
+use Rattle.mon_fence.specs.Fences.{fence_of, posted}
 use Rattle.mon_host.proofs.LawLemmas.{unmaps_tell}
 use Rattle.mon_host.proofs.RefusalLemmas.{can_be_mapped-early}
 use Rattle.mon_host.proofs.SpaceLemmas.{IsSlot, mapped-IsSlot}
@@ -40,31 +41,33 @@ use Rattle.world_attack.specs.Room.{RoomStays}
 use Rattle.world_machine.specs.declared.under.Under.TheVariants.{Idle, Removing}
 use Rattle.world_machine.specs.Answering.{begins, decided, entry_now, with_entry}
 use Rattle.world_machine.specs.BytesAgree.{HasPut}
-use Rattle.world_machine.specs.FencesStand.{RemovalStands, removals_by}
+use Rattle.world_machine.specs.FencesStand.{GivingStands, IsOfHost, RemovalStands, removals_by}
 use Rattle.world_machine.specs.HostAccessing.{host_faults}
 use Rattle.world_machine.specs.HostMapping.{begins_unmap, unmapped}
 use Rattle.world_machine.specs.LinesUnderWay.{LineUnderWay, number_under_way}
 use Rattle.world_machine.specs.RecordsAgree.{is_begun, owner_of}
 use Rattle.world_machine.specs.Standing.{Kept, state_of}
-use Rattle.world_machine.specs.TranslationsAgree.{IsFresh, WalkingStands, entry_of, walking}
+use Rattle.world_machine.specs.TranslationsAgree.{IsFresh, MayUseNumber, WalkingStands, entry_of, walking}
 use Rattle.world_machine.specs.Worlds.{WorldData, answered_at, hart_line, tlb_at, under_at}
 use Rattle.world_machine.proofs.FoundElements.{filtered_all}
-use Rattle.world_machine.proofs.Freshness.{Begins, begun_used, begun_used_own}
+use Rattle.world_machine.proofs.Freshness.{Begins, begun_used, begun_used_own, leaving_still}
 use Rattle.world_machine.proofs.HostOutcomes.{HostLine, host_outcome_kept, left_kept, left_line, refused_kept}
 use Rattle.world_machine.proofs.HostOwners.{removing_same}
 use Rattle.world_machine.proofs.HostRefusals.{unmap_allows, unmap_may_fault, unmap_refused_early, unmap_refused_in}
 use Rattle.world_machine.proofs.HostRows.{HostFrame, host_row}
 use Rattle.world_machine.proofs.HostSpaces.{host_mappable}
 use Rattle.world_machine.proofs.HostChanges.{HostChange, host_changed, same_space}
+use Rattle.world_machine.proofs.Leaving.{giving_set}
 use Rattle.world_machine.proofs.LineKinds.{begun_line}
 use Rattle.world_machine.proofs.LineMoves.{LineMoves}
+use Rattle.world_machine.proofs.LineTranslations.{isnt_waiting}
 use Rattle.world_machine.proofs.Lists.{or_other, or_same}
 use Rattle.world_machine.proofs.MappingTranslations.{mapping_vpn}
 use Rattle.world_machine.proofs.NumberRows.{AllButOneStay, but_changed, host_within}
 use Rattle.world_machine.proofs.Removals.{removals_by-begun, removals_by-begun_other}
 use Rattle.world_machine.proofs.RowKept.{line_after}
 use Rattle.world_machine.proofs.StandingFences.{fences_begun}
-use Rattle.world_machine.proofs.TranslationFrames.{few_tables, host_table_inside, removal_so}
+use Rattle.world_machine.proofs.TranslationFrames.{few_tables, giving_so, host_table_inside, removal_so}
 
 module _ (digest_of : List ℕ → List ℕ) (law : HasDigests digest_of) (room_stays : RoomStays) (w : WorldData) (k : Kept digest_of w) (none : w.collision ≡ None) (hart : ℕ) (below : hart < w.setup.harts)
     (va : Va) (here : hart_line w hart ≡ Some (Unmap va)) (so_far : under_at w.under hart ≡ Idle) (positions : List ℕ) where
@@ -168,6 +171,9 @@ module _ (digest_of : List ℕ → List ℕ) (law : HasDigests digest_of) (room_
       abbrev fences' : List (Option Fence)
       fences' = posted w.fences hart host_space (Some (record { 0 = gone.vpn }))
 
+      abbrev fence : Fence
+      fence = record { space = host_space; vpn = Some (record { 0 = gone.vpn }); need = without_hart (harts_below (length w.fences)) hart }
+
       abbrev kept_entries : List TlbEntry
       kept_entries = filter (λ entry. not (is_of host_space vpn entry)) (tlb_at w.tlbs hart)
 
@@ -224,6 +230,9 @@ module _ (digest_of : List ℕ → List ℕ) (law : HasDigests digest_of) (room_
               let clash : false ≡ true = sym (ap is_host guard) ∙ ap (λ q. is_host (s.owner q)) (sym same) ∙ is in
               cc
 
+      of_host : IsOfHost (fence_of w.fences hart)
+      of_host = giving_so digest_of w k hart (ap isnt_waiting so_far)
+
       -- its translations are of other pages
       not_covered : (m : Mapping) → not (is_of host_space vpn (entry_of host_space m)) ≡ true → m.vpn ≢ gone.vpn
       not_covered m is same = false≢true (ap (λ b. not (true && b)) (sym (eq-eqb m.vpn vpn.0 (same ∙ vpn_is))) ∙ is)
@@ -235,13 +244,11 @@ module _ (digest_of : List ℕ → List ℕ) (law : HasDigests digest_of) (room_
         fresh = begun_used_own s s' w.fences hart gone begins_so host.mapping
             (not_covered host.mapping (subst (λ x. not (is_of host_space vpn x) ≡ true) host.is passed)) host.fresh;
       })
-      own_fresh entry passed (inr number) = inr (record {
-        e = number.e;
-        mapping = number.mapping;
-        is = number.is;
-        live = number.live;
-        there = ap (λ space. mapping_at space number.mapping.vpn) (same_space w.setup s s' (λ e. refl) number.e) ∙ number.there;
-      })
+      own_fresh entry passed (inr number) = inr (record { e = number.e; mapping = number.mapping; is = number.is; fresh = still number.fresh })
+        where
+          still : MayUseNumber w.setup s w.fences hart number.e number.mapping → MayUseNumber w.setup s' fences' hart number.e number.mapping
+          still (inl (live, at)) = inl (live, ap (λ space. mapping_at space number.mapping.vpn) (same_space w.setup s s' (λ e. refl) number.e) ∙ at)
+          still (inr leaving) = inr (leaving_still w.fences hart _ of_host hart number.e leaving)
 
       -- the hart's line after it
       line_now : line_after w w.answered hart ≡ Some (Unmap va)
@@ -260,6 +267,10 @@ module _ (digest_of : List ℕ → List ℕ) (law : HasDigests digest_of) (room_
             (subst (λ u. RemovalStands (Some (Unmap va)) u (removals_by s'.removals hart)) (sym moves.under_change.here) (gone.perms, removal_is));
         others = λ other differs. or_other w.tlbs hart other kept_entries [] differs;
         used = λ other inside differs m. begun_used s s' w.fences hart gone begins_so other m (subst (λ n. other < n) (sym k.stands.translations.fences_stand.size) inside) differs;
+        leaving = λ other inside differs. leaving_still w.fences hart _ of_host other;
+        giving = giving_set digest_of w k hart below _ _ _ (λ other differs. refl) moves.under_change.others
+            (subst (λ l. GivingStands l (under_at (slice_set w.under hart (Removing page)) hart) (Some fence)) (sym line_now)
+            (subst (λ u. GivingStands (Some (Unmap va)) u (Some fence)) (sym moves.under_change.here) refl));
         own = subst (All (IsFresh w.setup s' fences' hart)) (sym (or_same w.tlbs hart kept_entries [] hart_has_tlb))
             (filtered_all (λ entry. not (is_of host_space vpn entry)) (IsFresh w.setup s w.fences hart) (IsFresh w.setup s' fences' hart) own_fresh (tlb_at w.tlbs hart) (k.stands.translations.fresh.entries hart));
         lines = λ other differs. refl;

@@ -22,15 +22,14 @@ use Rattle.pl_history.specs.Words as monitor
 use Rattle.world_attack.specs.Room.{RoomStays}
 use Rattle.world_machine.specs.declared.under.Under.TheVariants.{Idle}
 use Rattle.world_machine.specs.EnclavesAgree.{EnclaveStands}
-use Rattle.world_machine.specs.FencesStand.{removals_by}
 use Rattle.world_machine.specs.RecordsAgree.{RecordAgrees, is_begun}
 use Rattle.world_machine.specs.Standing.{Kept, state_of, written_page}
 use Rattle.world_machine.specs.Talking.{changes_unless, sends_word, takes_word}
 use Rattle.world_machine.specs.Worlds.{WorldData, hart_line, under_at}
+use Rattle.world_machine.proofs.LineTranslations.{isnt_waiting}
 use Rattle.world_machine.proofs.QuietRows.{answers_kept}
 use Rattle.world_machine.proofs.SentOut.{comes_earlier, retired_few, sent_out_later}
 use Rattle.world_machine.proofs.TalkingRows.{words_kept}
-use Rattle.world_machine.proofs.TranslationFrames.{removal_so}
 
 -- a number that words go in and out of isn't free
 worded_used : (state : State) → is_wordless state ≡ false → is_free state ≡ false
@@ -69,8 +68,8 @@ module _ (digest_of : List ℕ → List ℕ) (room_stays : RoomStays) (w : World
   not_begun : is_begun (under_at w.under hart) ≡ false
   not_begun = ap is_begun idle
 
-  no_removal : removals_by (state_of w).removals hart ≡ []
-  no_removal = removal_so digest_of w k hart Idle idle refl
+  waited : isnt_waiting (under_at w.under hart) ≡ true
+  waited = ap isnt_waiting idle
 
   -- ---- send
 
@@ -114,6 +113,8 @@ module _ (digest_of : List ℕ → List ℕ) (room_stays : RoomStays) (w : World
           apart = x.apart;
           owned = x.owned;
           parent = x.parent;
+          spares = x.spares;
+          given = x.given;
           now = x.now;
           alone_is = sent_later (Rattle.pl_history.specs.Monitor.flat_image x.image) r.sent (word ∷ []) r.retired x.now x.alone_is;
           context = x.context;
@@ -130,10 +131,10 @@ module _ (digest_of : List ℕ → List ℕ) (room_stays : RoomStays) (w : World
 
     send_by : (o : Option No) → send_refusal r ≡ o → Kept digest_of (changes_unless o w hart e.0 sent_to answer_is.Ok)
     send_by (Some cause) is = answers_kept digest_of room_stays w k none hart below (Send e word) (answer_is.No cause) refl here
-        (subst (λ b. AllowedAnswer w.setup (state_of w) (Send e word) b (answer_is.No cause)) (sym not_begun) (same_refusal ∙ is)) refl no_removal
+        (subst (λ b. AllowedAnswer w.setup (state_of w) (Send e word) b (answer_is.No cause)) (sym not_begun) (same_refusal ∙ is)) refl waited
     send_by None is = words_kept digest_of room_stays w k none hart below (Send e word) answer_is.Ok refl here
         (subst (λ b. AllowedAnswer w.setup (state_of w) (Send e word) b answer_is.Ok) (sym not_begun) (same_refusal ∙ is, refl))
-        e.0 there sent_to number_sent refl (record { state = refl; hart = refl; image = refl; pages = refl; context = refl; retired = refl }) refl refl sent_agrees sent_stands no_removal
+        e.0 there sent_to number_sent refl (record { state = refl; hart = refl; image = refl; pages = refl; context = refl; retired = refl }) refl refl sent_agrees sent_stands waited
 
     pub send_kept : Kept digest_of (sends_word w hart e.0 word).world
     send_kept = send_by (send_refusal r) refl
@@ -215,6 +216,8 @@ module _ (digest_of : List ℕ → List ℕ) (room_stays : RoomStays) (w : World
         apart = x.apart;
         owned = x.owned;
         parent = x.parent;
+        spares = x.spares;
+        given = x.given;
         now = x.now;
         alone_is = x.alone_is;
         context = x.context;
@@ -234,11 +237,11 @@ module _ (digest_of : List ℕ → List ℕ) (room_stays : RoomStays) (w : World
           (subst (λ b. AllowedAnswer w.setup (state_of w) (Take e) b (answer_is.Word taken_now)) (sym not_begun)
           (same_take (is_wordless r.state) refl ∙ passes, ap (option_map answer_is.Word) taken_is))
           e.0 there taken_from number_taken refl (record { state = refl; hart = refl; image = refl; pages = refl; context = refl; retired = refl }) refl refl taken_agrees
-          (λ used. taken_stands) no_removal
+          (λ used. taken_stands) waited
 
     take_by : (o : Option No) → take_refusal r ≡ o → Kept digest_of (changes_unless o w hart e.0 taken_from (answer_is.Word taken_now))
     take_by (Some cause) is = answers_kept digest_of room_stays w k none hart below (Take e) (answer_is.No cause) refl here
-        (subst (λ b. AllowedAnswer w.setup (state_of w) (Take e) b (answer_is.No cause)) (sym not_begun) (same_take (is_wordless r.state) refl ∙ is)) refl no_removal
+        (subst (λ b. AllowedAnswer w.setup (state_of w) (Take e) b (answer_is.No cause)) (sym not_begun) (same_take (is_wordless r.state) refl ∙ is)) refl waited
     take_by None is = take_done is
 
     pub take_kept : Kept digest_of (takes_word w hart e.0).world

@@ -1,5 +1,5 @@
 -- Each enclave number that isn't free is its image run alone.
-use Rattle.std.specs.Prelude.{◌≡◌, ℕ, ◌%◌, ◌≤◌, true, false, List, length, map, slice_get, take, Some, None}
+use Rattle.std.specs.Prelude.{◌≡◌, ℕ, ◌%◌, ◌≤◌, Bool, true, false, List, [], length, map, slice_get, take, Some, None}
 use Rattle.std.specs.List.{All}
 use Rattle.pl_base.specs.declared.state.State.{State}
 use Rattle.pl_base.specs.declared.state.State.TheVariants as state_is
@@ -17,9 +17,15 @@ use Rattle.pl_history.specs.Monitor.{Number, flat_image}
 use Rattle.pl_history.specs.Words.{sent_out}
 use Rattle.world_machine.specs.Pages.{flat_pages, numbers_of}
 
--- an image that has ended runs no more; any other may go on
+-- the number is given back
+abbrev pub is_dying : State → Bool
+is_dying state_is.Dying = true
+is_dying state = false
+
+-- an image that has ended runs no more, and one that is given back may have ended; any other may go on
 abbrev pub StatusStands : State → Status → Type 0
 StatusStands state_is.Ended status = Unit {0}
+StatusStands state_is.Dying status = Unit {0}
 StatusStands state status = status ≡ on
 
 -- a page is this number's own
@@ -27,7 +33,8 @@ abbrev pub IsOwn : List Owner → ℕ → ℕ → Type 0
 IsOwn owners e page = slice_get owners page ≡ Some (owner_is.Enclave (record { 0 = e }))
 
 -- The record is the state of its image run alone for as many instructions as it retired: registers, pc, received and sent out words. Where
--- the number is live, its pages are its own, and have the state's bytes, as last written; where it isn't, the image hasn't begun.
+-- the number is live, its pages are its own, and have the state's bytes, as last written; where it isn't, and isn't given back either, the
+-- image hasn't begun. It has no other pages.
 pub record EnclaveStands (setup : SetupParts) (bytes_of : ℕ → List ℕ) (owners : List Owner) (e : ℕ) (r : Enclave) (n : Number) : Type 0 where
   pub image : Image
   pub image_is : slice_get setup.images r.image ≡ Some image
@@ -36,6 +43,8 @@ pub record EnclaveStands (setup : SetupParts) (bytes_of : ℕ → List ℕ) (own
   pub apart : first_twice (numbers_of r.pages) ≡ None
   pub owned : All (IsOwn owners e) (numbers_of r.pages)
   pub parent : r.parent ≡ None
+  pub spares : r.spares ≡ []
+  pub given : r.given ≡ 0
   pub now : Flat
   pub alone_is : alone (flat_image image) r.sent r.retired ≡ Some now
   pub context : r.context ≡ context_of now
@@ -47,7 +56,7 @@ pub record EnclaveStands (setup : SetupParts) (bytes_of : ℕ → List ℕ) (own
   pub shown_few : r.shown ≤ length r.out
   pub shown : take r.shown r.out ≡ sent_out setup n
   pub pages : n.live ≡ true → now.pages ≡ flat_pages bytes_of image.pages (numbers_of r.pages)
-  pub start : n.live ≡ false → now ≡ start_of (flat_image image)
+  pub start : n.live ≡ false → is_dying r.state ≡ false → now ≡ start_of (flat_image image)
 
 abbrev pub EnclavesAgree : SetupParts → (ℕ → List ℕ) → List Owner → (ℕ → Enclave) → (ℕ → Number) → Type 0
 EnclavesAgree setup bytes_of owners record_of number_of =

@@ -5,9 +5,11 @@ pub mod Answering
 pub mod Attacking
 pub mod ByteBounds
 pub mod BytesAgree
+pub mod DyingNumbers
 pub mod EnclavesAgree
 pub mod Endings
 pub mod FencesStand
+pub mod GivingBack
 pub mod HostAccesses
 pub mod HostAccessing
 pub mod HostMapping
@@ -15,11 +17,14 @@ pub mod Laws
 pub mod LineNumbers
 pub mod LinesUnderWay
 pub mod Making
+pub mod NumberImages
+pub mod NumberLaws
 pub mod Pages
 pub mod Reached
 pub mod RecordsAgree
 pub mod Running
 pub mod Runs
+pub mod SinceMade
 pub mod Sizes
 pub mod Standing
 pub mod Steps

@@ -15,11 +15,11 @@ use Rattle.mon_image.specs.declared.page.ImagePage.{ImagePage}
 use Rattle.mon_life.specs.Pages.{PagePut, page_put_at}
 use Rattle.mon_life.specs.Putting.{steps_of}
 use Rattle.pl_history.specs.declared.line.Line.{Line}
-use Rattle.pl_history.specs.declared.line.Line.TheVariants.{Load, Store, Unmap, Create, Run, Resume}
+use Rattle.pl_history.specs.declared.line.Line.TheVariants.{Load, Store, Unmap, Create, Run, Resume, Destroy}
 use Rattle.pl_history.specs.declared.setup.SetupParts.{SetupParts}
 use Rattle.pl_history.specs.Monitor.{Number}
 use Rattle.world_machine.specs.declared.under.Under.{Under}
-use Rattle.world_machine.specs.declared.under.Under.TheVariants.{Idle, Seeking, Removing, Putting, Running}
+use Rattle.world_machine.specs.declared.under.Under.TheVariants.{Idle, Seeking, Removing, Destroying, Putting, Running}
 use Rattle.world_machine.specs.Making.{image_of}
 use Rattle.world_machine.specs.Pages.{flat_pages, located, numbers_of}
 
@@ -28,6 +28,7 @@ abbrev pub number_under_way : Option Line → Under → Option ℕ
 number_under_way (Some (Create e image pages)) (Putting done) = Some e.0
 number_under_way (Some (Run e budget)) (Running micro count) = Some e.0
 number_under_way (Some (Resume e budget)) (Running micro count) = Some e.0
+number_under_way (Some (Destroy e)) Destroying = Some e.0
 number_under_way line under = None
 
 -- no number is under way on two harts
@@ -87,4 +88,5 @@ LineUnderWay setup bytes_of record_of number hart (Some (Run e budget)) (Running
     IsRunning setup bytes_of (record_of e.0) (number e.0) hart budget count micro
 LineUnderWay setup bytes_of record_of number hart (Some (Resume e budget)) (Running micro count) =
     IsRunning setup bytes_of (record_of e.0) (number e.0) hart budget count micro
+LineUnderWay setup bytes_of record_of number hart (Some (Destroy e)) Destroying = (record_of e.0).state ≡ state_is.Dying
 LineUnderWay setup bytes_of record_of number hart line under = ⊥

@@ -21,7 +21,7 @@ use Rattle.world_machine.specs.declared.turned.Turned.{Turned}
 use Rattle.world_machine.specs.declared.turned.Turned.TheVariants.{Moved, Blocked, Nothing, Done, Halted}
 use Rattle.world_machine.specs.declared.turned.Wait.TheVariants.{Acks, After}
 use Rattle.world_machine.specs.declared.under.Under.{Under}
-use Rattle.world_machine.specs.declared.under.Under.TheVariants.{Idle, Seeking, Removing, Putting, Running}
+use Rattle.world_machine.specs.declared.under.Under.TheVariants.{Idle, Seeking, Removing, Destroying, Putting, Running}
 use Rattle.world_machine.specs.Making.{image_of}
 use Rattle.world_machine.specs.Steps.{Ran, actor_turn, turned_by}
 use Rattle.world_machine.specs.Worlds.{WorldData, answered_at, hart_line, under_at}
@@ -92,6 +92,7 @@ abbrev pub cost_of : SetupParts → Line → ℕ
 cost_of setup (line.Load va) = 4
 cost_of setup (line.Store va word) = 4
 cost_of setup (line.Unmap va) = 2 + 8 * setup.harts
+cost_of setup (line.Destroy e) = 2 + 8 * setup.harts
 cost_of setup (line.Create e image pages) = 1 + steps_of false (length (image_of setup image).pages)
 cost_of setup (line.Run e budget) = 1 + 8 * budget
 cost_of setup (line.Resume e budget) = 1 + 8 * budget
@@ -115,6 +116,7 @@ line_left setup (Some now) Idle = cost_of setup now
 line_left setup (Some (line.Load va)) (Seeking walk) = 4 - words_read walk
 line_left setup (Some (line.Store va word)) (Seeking walk) = 4 - words_read walk
 line_left setup (Some (line.Unmap va)) (Removing page) = 1
+line_left setup (Some (line.Destroy e)) Destroying = 1
 line_left setup (Some (line.Create e image pages)) (Putting done) = steps_of false (length (image_of setup image).pages) - done
 line_left setup (Some (line.Run e budget)) (Running micro count) = 8 * (budget - count) - events_made micro
 line_left setup (Some (line.Resume e budget)) (Running micro count) = 8 * (budget - count) - events_made micro

@@ -10,16 +10,17 @@ use Rattle.pl_history.specs.declared.answer.Answer.TheVariants as answer_is
 use Rattle.pl_history.specs.declared.line.AttackLine.{AttackLine}
 use Rattle.pl_history.specs.declared.line.AttackLine.TheVariants as attack
 use Rattle.pl_history.specs.declared.line.Line.{Line}
-use Rattle.pl_history.specs.declared.line.Line.TheVariants.{Load, Store, Map, Unmap, Create, Run, Resume, Send, Take, After}
+use Rattle.pl_history.specs.declared.line.Line.TheVariants.{Load, Store, Map, Unmap, Create, Run, Resume, Send, Take, Destroy, After}
 use Rattle.pl_history.specs.Rules.{is_actor}
 use Rattle.world_machine.specs.declared.turned.Turned.{Turned}
 use Rattle.world_machine.specs.declared.turned.Turned.TheVariants as turned
 use Rattle.world_machine.specs.declared.turned.Wait.TheVariants as wait
 use Rattle.world_machine.specs.declared.under.Under.{Under}
-use Rattle.world_machine.specs.declared.under.Under.TheVariants.{Idle, Seeking, Removing, Putting, Running}
+use Rattle.world_machine.specs.declared.under.Under.TheVariants.{Idle, Seeking, Removing, Destroying, Putting, Running}
 use Rattle.world_machine.specs.Acknowledging.{acknowledged, owed}
 use Rattle.world_machine.specs.Answering.{answers, quiet}
 use Rattle.world_machine.specs.Attacking.{attacker_waited, attacks}
+use Rattle.world_machine.specs.GivingBack.{begins_destroy, ends_destroy}
 use Rattle.world_machine.specs.HostAccessing.{accesses_host, begins_access, loads, stores}
 use Rattle.world_machine.specs.HostMapping.{begins_unmap, ends_unmap, lacked_by, maps}
 use Rattle.world_machine.specs.Making.{begin_create, put_next}
@@ -36,10 +37,10 @@ pub data Turn : Type 0 where
 abbrev pub waits : WorldData → ℕ → ℕ → Event → Turn
 waits w actor count done = if nat_le count (answered_at w.answered actor) then moves done else rests (turned.Blocked (wait.After actor count))
 
--- a removal ends once no hart's acknowledgement is lacking
-abbrev pub unmap_turn : WorldData → ℕ → ℕ → Option HartSet → Turn
-unmap_turn w hart page None = moves (quiet (ends_unmap w hart page))
-unmap_turn w hart page (Some harts) = rests (turned.Blocked (wait.Acks harts))
+-- a line that posted a fence ends, in this world, once no hart's acknowledgement is lacking
+abbrev pub waiting_turn : WorldData → Option HartSet → Turn
+waiting_turn ended None = moves (quiet ended)
+waiting_turn ended (Some harts) = rests (turned.Blocked (wait.Acks harts))
 
 -- this hart acknowledges the fence of the lowest requester that needs it
 abbrev pub ack_turn : WorldData → ℕ → Option ℕ → Turn
@@ -55,7 +56,9 @@ module _ (digest_of : List ℕ → List ℕ) where
   due w hart positions (Store va word) (Seeking walk) = moves (accesses_host digest_of w hart positions va (stores word) walk)
   due w hart positions (Map va page perms) Idle = moves (maps digest_of w hart positions va page perms)
   due w hart positions (Unmap va) Idle = moves (begins_unmap digest_of w hart positions va)
-  due w hart positions (Unmap va) (Removing page) = unmap_turn w hart page (lacked_by w hart)
+  due w hart positions (Unmap va) (Removing page) = waiting_turn (ends_unmap w hart page) (lacked_by w hart)
+  due w hart positions (Destroy e) Idle = moves (begins_destroy w hart e)
+  due w hart positions (Destroy e) Destroying = waiting_turn (ends_destroy w hart e) (lacked_by w hart)
   due w hart positions (Create e image pages) Idle = moves (begin_create w hart e.0 image pages)
   due w hart positions (Create e image pages) (Putting done) = moves (put_next digest_of w hart positions e.0 image done)
   due w hart positions (Run e budget) Idle = moves (begin_run w hart e.0 true)

@@ -1,5 +1,5 @@
--- Each translation that a hart has, in its TLB or found by its walk, is one of the space in which it was made; of the host's space it may
--- also be one that is being taken away, where the fence of that still needs this hart. A walk under way stands at the table that the words
+-- Each translation that a hart has, in its TLB or found by its walk, is one of the space in which it was made; or it is being taken away, and
+-- the fence of that still needs this hart: of the host's space with its mapping, of a number's with the number. A walk under way stands at the table that the words
 -- give.
 use Rattle.std.specs.Prelude.{◌≡◌, ◌⊎◌, ℕ, ◌+◌, ◌<◌, true, List, [], length, Option, Some, None, option_map}
 use Rattle.std.specs.List.{All}
@@ -18,6 +18,7 @@ use Rattle.rv_tlb.specs.declared.tlb.TlbEntry.{TlbEntry}
 use Rattle.mem_ctl.specs.Data.{CtlData}
 use Rattle.mon_enclave.specs.declared.enclave.Enclave.{Enclave}
 use Rattle.mon_fence.specs.declared.fences.Fence.{Fence}
+use Rattle.mon_fence.specs.Fences.{fence_of}
 use Rattle.mon_host.specs.Laws.{mirror_words}
 use Rattle.mon_host.specs.Leaves.{host_space}
 use Rattle.mon_tables.specs.Space.{Mapping, mapping_at}
@@ -29,7 +30,7 @@ use Rattle.pl_history.specs.Monitor.{Monitor}
 use Rattle.pl_history.specs.NumberSpace.{mappings_of_number}
 use Rattle.world_machine.specs.declared.under.Under.{Under}
 use Rattle.world_machine.specs.declared.under.Under.TheVariants.{Running, Seeking}
-use Rattle.world_machine.specs.FencesStand.{FencesStand, IsOpen, RemovalStands, removals_by}
+use Rattle.world_machine.specs.FencesStand.{FencesStand, GivingStands, IsLeaving, IsOpen, RemovalStands, removals_by}
 use Rattle.world_machine.specs.LinesUnderWay.{access_of}
 use Rattle.world_machine.specs.TablesAgree.{TablesAgree}
 use Rattle.world_machine.specs.Translating.{host_view, number_view}
@@ -55,17 +56,21 @@ pub record IsHostEntry (s : Monitor) (fences : List (Option Fence)) (hart : ℕ)
 abbrev pub space_of : SetupParts → Monitor → ℕ → List Mapping
 space_of setup s e = mappings_of_number setup s.number (s.number e) []
 
--- a translation of a live number: that of a mapping of its space
-pub record IsNumberEntry (setup : SetupParts) (s : Monitor) (entry : TlbEntry) : Type 0 where
+-- a hart may use a mapping of a number: the space of the live number has it, or the number is given back and the hart has yet to acknowledge
+-- that
+abbrev pub MayUseNumber : SetupParts → Monitor → List (Option Fence) → ℕ → ℕ → Mapping → Type 0
+MayUseNumber setup s fences hart e m = (((s.number e).live ≡ true) × (mapping_at (space_of setup s e) m.vpn ≡ Some m)) ⊎ IsLeaving fences hart e
+
+-- a translation of a number: that of a mapping that the hart may use
+pub record IsNumberEntry (setup : SetupParts) (s : Monitor) (fences : List (Option Fence)) (hart : ℕ) (entry : TlbEntry) : Type 0 where
   pub e : ℕ
   pub mapping : Mapping
   pub is : entry ≡ entry_of (record { 0 = e + 1 }) mapping
-  pub live : (s.number e).live ≡ true
-  pub there : mapping_at (space_of setup s e) mapping.vpn ≡ Some mapping
+  pub fresh : MayUseNumber setup s fences hart e mapping
 
 -- nobody else has translations
 abbrev pub IsFresh : SetupParts → Monitor → List (Option Fence) → ℕ → TlbEntry → Type 0
-IsFresh setup s fences hart entry = IsHostEntry s fences hart entry ⊎ IsNumberEntry setup s entry
+IsFresh setup s fences hart entry = IsHostEntry s fences hart entry ⊎ IsNumberEntry setup s fences hart entry
 
 -- ---- walks under way
 
@@ -114,4 +119,5 @@ pub record TranslationsStand (setup : SetupParts) (ctl : CtlData) (tlbs : List (
   pub harts : length tlbs ≡ setup.harts
   pub fences_stand : FencesStand setup.harts fences s.removals
   pub removals : (hart : ℕ) → RemovalStands (line_of hart) (under_of hart) (removals_by s.removals hart)
+  pub giving : (hart : ℕ) → GivingStands (line_of hart) (under_of hart) (fence_of fences hart)
   pub fresh : Fresh setup ctl tlbs fences record_of s line_of under_of

@@ -2,7 +2,7 @@
 use Rattle.std.specs.Prelude.{ℕ, Bool, true, false, not, List, Option}
 use Rattle.std.specs.List.{flat_map, position}
 use Rattle.pl_history.specs.declared.line.Line.{Line}
-use Rattle.pl_history.specs.declared.line.Line.TheVariants.{Load, Store, Map, Unmap, Create, Run, Resume, Send, Take, After}
+use Rattle.pl_history.specs.declared.line.Line.TheVariants.{Load, Store, Map, Unmap, Create, Run, Resume, Send, Take, Destroy, After}
 use Rattle.pl_history.specs.declared.setup.SetupParts.{SetupParts}
 
 -- the lines of harts that are built; those of the attacker all are
@@ -16,6 +16,7 @@ is_built (Run e budget) = true
 is_built (Resume e budget) = true
 is_built (Send e word) = true
 is_built (Take e) = true
+is_built (Destroy e) = true
 is_built (After actor count) = true
 is_built _ = false
 

@@ -10,6 +10,8 @@ pub enum Under {
     Seeking { walk: Walk },
     /// A mapping to this page is taken away: it ends once every other hart has acknowledged that.
     Removing { page: u32 },
+    /// A number is given back: that ends once every other hart has acknowledged the fence of its space.
+    Destroying,
     /// A number is being made: the steps that are done, a page each.
     Putting { done: u32 },
     /// An enclave runs: where its next instruction is, and how many retired since the line began.

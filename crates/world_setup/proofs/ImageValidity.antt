@@ -19,7 +19,7 @@ use Rattle.world_setup.proofs.Choices.{chosen, ok_same, fewer, all_chosen}
 use Rattle.world_setup.proofs.FormLemmas.{perms_pass}
 use Rattle.world_setup.proofs.ImageRules.{images_fit}
 
-page_size : (bytes : List ℕ) → length (page_of_bytes bytes) ≡ 4096
+pub page_size : (bytes : List ℕ) → length (page_of_bytes bytes) ≡ 4096
 page_size bytes = omega (arith, length-append (take 4096 bytes) (replicate (4096 - length bytes) 0), length-take 4096 bytes, length-replicate {A = ℕ} (4096 - length bytes) 0)
 
 page_from : (perms : Perms) (o : Option (List ℕ)) (page : ImagePage) → are_page_perms perms ≡ true → option_map (λ bytes. record { perms = perms; bytes = page_of_bytes bytes }) o ≡ Some page → is_page page ≡ true

@@ -26,3 +26,5 @@ pub mod Validity
 pub mod ImageReads
 pub mod PageReads
 pub mod ScriptReads
+pub mod GeneratedLines
+pub mod GeneratedValidity

@@ -14,3 +14,4 @@ pub mod Forms
 pub mod Entries
 pub mod Order
 pub mod References
+pub mod Generating

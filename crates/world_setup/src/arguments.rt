@@ -14,7 +14,7 @@ use std::alloc::Global;
 const MOST_BYTES: usize = 4096;
 
 /// A number from `low` to `high`.
-pub(crate) fn within(low: u32, high: u32, number: Option<u64>) -> Option<u32>
+pub fn within(low: u32, high: u32, number: Option<u64>) -> Option<u32>
     ensures { result ≡ within low high number }
 {
     match number {

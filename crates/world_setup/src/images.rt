@@ -121,8 +121,8 @@ fn has_bytes(page: &Value) -> bool
     }
 }
 
-// The bytes, filled up with zeros to a page.
-fn page_of_bytes(mut bytes: Vec<u8>) -> Result<PageBytes, Memory>
+/// The bytes, filled up with zeros to a page.
+pub(crate) fn page_of_bytes(mut bytes: Vec<u8>) -> Result<PageBytes, Memory>
     ensures { IfOk result (λ page. page ≡ page_of_bytes bytes.items) }
 {
     bytes.resize(PAGE_BYTES as usize, 0)?;

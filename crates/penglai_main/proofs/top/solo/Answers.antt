@@ -3,6 +3,7 @@ use Rattle.std.specs.Fn.{FnReturnsAt}
 use Rattle.sha2.specs.Sha256.{sha256}
 use Rattle.pl_history.specs.declared.setup.ChoiceName.TheVariants as choice_is
 use Rattle.pl_history.specs.declared.setup.SetupParts.{SetupParts}
+use Rattle.penglai_main.specs.declared.solo.Printed.TheVariants as printed_is
 use Rattle.penglai_main.specs.Ends.{Ends, ends}
 use Rattle.penglai_main.specs.Play.{RunEnds}
 use Rattle.penglai_main.specs.Top.{choice_gives, runnable_of}
@@ -25,7 +26,7 @@ returns-in-Oldest-clause-explains g c =
     let named : setup.choice ≡ choice_is.Oldest = sym (ap (λ (p : SetupParts). p.choice) c.parts.ensures.parts) ∙ c.in-Oldest.is in
     explained (choice_gives (FnReturnsAt g.F.Fn c.args.oldest) (FnReturnsAt g.O.Fn c.args.least)) source sink setup c.solo_with.result
     (subst (λ r. Obtains runnable_of source r) c.in-Ok.is c.runnable_from.ensures.obtains)
-    (subst (λ n. RunEnds sha256 (choice_gives (FnReturnsAt g.F.Fn c.args.oldest) (FnReturnsAt g.O.Fn c.args.least) n) setup sink c.solo_with.result) (sym named) c.solo_with.ensures.ends)
+    (subst (λ n. RunEnds sha256 (choice_gives (FnReturnsAt g.F.Fn c.args.oldest) (FnReturnsAt g.O.Fn c.args.least) n) setup printed_is.History sink c.solo_with.result) (sym named) c.solo_with.ensures.ends)
 
 pub returns-in-Least-clause-explains : goal.returns-in-Least-clause-explains
 returns-in-Least-clause-explains g c =
@@ -35,4 +36,4 @@ returns-in-Least-clause-explains g c =
     let named : setup.choice ≡ choice_is.Least = sym (ap (λ (p : SetupParts). p.choice) c.parts.ensures.parts) ∙ c.in-Least.is in
     explained (choice_gives (FnReturnsAt g.F.Fn c.args.oldest) (FnReturnsAt g.O.Fn c.args.least)) source sink setup c.solo_with-in-Least.result
     (subst (λ r. Obtains runnable_of source r) c.in-Ok.is c.runnable_from.ensures.obtains)
-    (subst (λ n. RunEnds sha256 (choice_gives (FnReturnsAt g.F.Fn c.args.oldest) (FnReturnsAt g.O.Fn c.args.least) n) setup sink c.solo_with-in-Least.result) (sym named) c.solo_with-in-Least.ensures.ends)
+    (subst (λ n. RunEnds sha256 (choice_gives (FnReturnsAt g.F.Fn c.args.oldest) (FnReturnsAt g.O.Fn c.args.least) n) setup printed_is.History sink c.solo_with-in-Least.result) (sym named) c.solo_with-in-Least.ensures.ends)

@@ -1,8 +1,16 @@
-use Rattle.std.proofs.Common.{ap}
+use Rattle.std.proofs.Common.{ap, subst, sym}
 use Rattle.std.specs.Fn.{FnReturnsAt}
+use Rattle.world_core.specs.declared.dues.Due.{Due}
 use Rattle.world_core.specs.Conditions.{pages_due}
+use Rattle.world_core.specs.Turns.{IsTurn, due_turn}
 use Rattle.world_core.proofs.TurnLemmas.{is_said, said_turn}
 use Rattle.world_core.proofs.machine.Machine.make.Goals as goal
+
+pub returns-in-Destroy-clause-turn : goal.returns-in-Destroy-clause-turn
+returns-in-Destroy-clause-turn g c =
+    let w = c.args.self.now in
+    subst (λ (due : Due). IsTurn (FnReturnsAt g.F.Fn w.1) (λ positions. due_turn g.D.Digester.digest_of w.0 c.args.hart.0 positions (pages_due w.0 c.args.hart.0) due c.args.under) c.destroy.result w.0 c.destroy.new.self.0)
+    (sym c.in-Destroy.is) c.destroy.ensures.turn
 
 pub returns-in-Send-clause-turn : goal.returns-in-Send-clause-turn
 returns-in-Send-clause-turn g c =

@@ -7,10 +7,10 @@ use Rattle.world_machine.specs.Worlds.{WorldData}
 use Rattle.penglai_main.specs.Ends.{ends}
 use Rattle.penglai_main.specs.Play.{PlayedTo}
 use Rattle.penglai_main.proofs.SoloLemmas.{opening_setup, run_ends}
-use Rattle.penglai_main.proofs.solo.solo_with.Goals as goal
+use Rattle.penglai_main.proofs.solo.run_and_print.Goals as goal
 
-pub play-requires-clause-opening : goal.play-requires-clause-opening
-play-requires-clause-opening g c =
+pub play_and_print-requires-clause-opening : goal.play_and_print-requires-clause-opening
+play_and_print-requires-clause-opening g c =
     let d = g.D.Digester.digest_of in
     let made = subst (λ r. IfOk r (λ v. v ≡ (opening_world d c.args.setup, c.args.choice))) c.in-Ok.is c.new.ensures in
     let is : c.in-Ok.world.0 ≡ opening_world d c.args.setup = ap (λ v. v.0) made in
@@ -20,11 +20,11 @@ play-requires-clause-opening g c =
 pub returns-clause-ends : goal.returns-clause-ends
 returns-clause-ends g c =
     let d = g.D.Digester.digest_of in
-    let sink = ends g.K.Sink.written g.K.Sink.faults c.args.sink.now c.play.new.sink in
-    let w = c.play.new.world.0 in
+    let sink = ends g.K.Sink.written g.K.Sink.faults c.args.sink.now c.play_and_print.new.sink in
+    let w = c.play_and_print.new.world.0 in
     let made = subst (λ r. IfOk r (λ v. v ≡ (opening_world d c.args.setup, c.args.choice))) c.in-Ok.is c.new.ensures in
     let setup : c.in-Ok.world.0.setup ≡ c.args.setup = ap (λ v. v.0.setup) made ∙ opening_setup d c.args.setup in
     let rule : c.in-Ok.world.1 ≡ c.args.choice = ap (λ v. v.1) made in
-    run_ends d (FnReturnsAt g.F.Fn c.args.choice) c.args.setup w sink c.play.result
-    (subst (λ (p : SetupParts). PlayedTo d (FnReturnsAt g.F.Fn c.args.choice) p w sink c.play.result) setup
-    (subst (λ f. PlayedTo d (FnReturnsAt g.F.Fn f) c.in-Ok.world.0.setup w sink c.play.result) rule c.play.ensures.played))
+    run_ends d (FnReturnsAt g.F.Fn c.args.choice) c.args.setup c.args.printed w sink c.play_and_print.result
+    (subst (λ (p : SetupParts). PlayedTo d (FnReturnsAt g.F.Fn c.args.choice) p c.args.printed w sink c.play_and_print.result) setup
+    (subst (λ f. PlayedTo d (FnReturnsAt g.F.Fn f) c.in-Ok.world.0.setup c.args.printed w sink c.play_and_print.result) rule c.play_and_print.ensures.played))

@@ -1,0 +1,91 @@
+-- In a kept world each dying number has the fence of its space, and there is no other fence than those and the ones of open removals.
+use Rattle.std.proofs.Common.{◌≡◌, ◌⊎◌, ℕ, ◌==◌, Bool, true, false, if◌then◌else◌, List, Option, Some, None, option_map, refl, sym, ap, ◌∙◌, subst, inl, inr}
+use Rattle.pl_base.specs.declared.number.EncNo.{EncNo}
+use Rattle.mon_enclave.specs.declared.enclave.Enclave.{Enclave}
+use Rattle.mon_enclave.specs.Records.{enclave_at}
+use Rattle.mon_fence.specs.declared.fences.Fence.{Fence}
+use Rattle.mon_fence.specs.Fences.{fence_of}
+use Rattle.mon_tables.specs.Space.{Mapping}
+use Rattle.pl_history.specs.declared.line.AttackLine.{AttackLine}
+use Rattle.pl_history.specs.declared.line.Line.{Line}
+use Rattle.pl_history.specs.declared.line.Line.TheVariants.{Destroy}
+use Rattle.pl_history.specs.declared.setup.SetupParts.{SetupParts}
+use Rattle.pl_history.specs.Legal.{line_at, of_attacker, of_hart}
+use Rattle.pl_history.specs.Monitor.{Monitor, Number, Progress}
+use Rattle.world_machine.specs.declared.under.Under.{Under}
+use Rattle.world_machine.specs.declared.under.Under.TheVariants.{Idle, Seeking, Removing, Destroying, Putting, Running}
+use Rattle.world_machine.specs.DyingNumbers.{Dies, DyingNumbersFenced, HasFence}
+use Rattle.world_machine.specs.FencesStand.{FenceStands, GivingStands, IsOfNumber, IsOfRemoval, removals_by}
+use Rattle.world_machine.specs.LinesUnderWay.{LineUnderWay}
+use Rattle.world_machine.specs.RecordsAgree.{is_begun, progress_of}
+use Rattle.world_machine.specs.Standing.{Kept, state_of, written_page}
+use Rattle.world_machine.specs.Worlds.{WorldData, hart_line, under_at}
+use Rattle.world_machine.proofs.DyingNumbers.{GivesBack, legal_given}
+use Rattle.world_machine.proofs.Leaving.{number_dies}
+
+-- a line of a hart is in the script of that hart
+pub in_script : (attackers : Bool) (a : Option AttackLine) (b : Option Line) (line : Line)
+    → (if attackers then option_map of_attacker a else option_map of_hart b) ≡ Some (of_hart line) → b ≡ Some line
+in_script true None b line is = cc
+in_script true (Some x) b line is = cc
+in_script false a None line is = cc
+in_script false a (Some x) line is = ap Some (let same : x ≡ line = cc in same)
+
+-- a begun `destroy` gives its number back
+gives_back : (setup : SetupParts) (bytes : ℕ → List ℕ) (rec : ℕ → Enclave) (number : ℕ → Number) (hart : ℕ) (e : EncNo) (under : Under)
+    → LineUnderWay setup bytes rec number hart (Some (Destroy e)) under → is_begun under ≡ true → under ≡ Destroying
+gives_back setup bytes rec number hart e Idle stands begun = cc
+gives_back setup bytes rec number hart e (Seeking walk) stands begun = absurd stands
+gives_back setup bytes rec number hart e (Removing page) stands begun = absurd stands
+gives_back setup bytes rec number hart e (Putting done) stands begun = absurd stands
+gives_back setup bytes rec number hart e (Running micro count) stands begun = absurd stands
+gives_back setup bytes rec number hart e Destroying stands begun = refl
+
+module _ (digest_of : List ℕ → List ℕ) (w : WorldData) (k : Kept digest_of w) where
+  abbrev s : Monitor
+  s = state_of w
+
+  module _ (e : ℕ) (g : GivesBack w.setup s e) where
+    abbrev gives : Line
+    gives = Destroy (record { 0 = e })
+
+    progress : s.progress g.hart ≡ progress_of w.under w.answered g.hart
+    progress = k.stands.progress g.hart
+
+    line : hart_line w g.hart ≡ Some gives
+    line = in_script (g.hart == w.setup.harts) _ (hart_line w g.hart) gives (ap (λ (p : Progress). line_at w.setup g.hart p.answered) (sym progress) ∙ g.line)
+
+    begun : under_at w.under g.hart ≡ Destroying
+    begun = gives_back w.setup (written_page w) (enclave_at w.enclaves) s.number g.hart (record { 0 = e }) (under_at w.under g.hart)
+        (subst (λ l. LineUnderWay w.setup (written_page w) (enclave_at w.enclaves) s.number g.hart l (under_at w.under g.hart)) line (k.stands.lines g.hart))
+        (ap (λ (p : Progress). p.begun) (sym progress) ∙ g.begun)
+
+    giving : GivingStands (Some gives) Destroying (fence_of w.fences g.hart)
+    giving = subst (λ u. GivingStands (Some gives) u (fence_of w.fences g.hart)) begun
+        (subst (λ l. GivingStands l (under_at w.under g.hart) (fence_of w.fences g.hart)) line (k.stands.translations.giving g.hart))
+
+    has_fence : HasFence w e
+    has_fence = record { hart = g.hart; line = line; begun = begun; fence = giving.0; is = giving.1; of_number = giving.2 }
+
+  module _ (hart : ℕ) (fence : Fence) (is : fence_of w.fences hart ≡ Some fence) where
+    abbrev removed : List Mapping
+    removed = removals_by s.removals hart
+
+    by_kind : FenceStands (Some fence) removed → IsOfRemoval fence removed ⊎ ((e : ℕ) × IsOfNumber fence e × Dies w e)
+    by_kind (inl of_removal) = inl of_removal
+    by_kind (inr (e, of_number, none)) =
+        inr (
+          e,
+          of_number,
+          number_dies w.setup (written_page w) (enclave_at w.enclaves) s.number hart e (hart_line w hart) (under_at w.under hart) fence of_number
+              (subst (GivingStands (hart_line w hart) (under_at w.under hart)) is (k.stands.translations.giving hart)) (k.stands.lines hart),
+        )
+
+    of_one : IsOfRemoval fence removed ⊎ ((e : ℕ) × IsOfNumber fence e × Dies w e)
+    of_one = by_kind (subst (λ f. FenceStands f removed) is (k.stands.translations.fences_stand.each hart))
+
+  pub dying_fenced : DyingNumbersFenced w
+  dying_fenced = record {
+    fenced = λ e dies. has_fence e (legal_given w.setup w.history.bytes w.history.entries k.legal e ((k.stands.records e).state ∙ dies));
+    others = of_one;
+  }
