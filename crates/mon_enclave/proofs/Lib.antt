@@ -1,1 +1,2 @@
 pub mod RecordLists
+pub mod SharedPages

@@ -1,5 +1,7 @@
 -- The record of an enclave number, and what each call makes of it.
-use Rattle.std.specs.Prelude.{ℕ, ◌≤◌, ◌==◌, nat_lt, Bool, List, [], ◌∷◌, ◌++◌, length, map, filter_map, replicate, slice_get, slice_set, unwrap_or, Option, Some, None}
+use Rattle.std.specs.Prelude.{ℕ, ◌+◌, ◌≤◌, ◌==◌, nat_lt, Bool, true, false, List, [], ◌∷◌, ◌++◌, length, map, drop, filter_map, replicate, slice_get, slice_index, slice_set, unwrap_or, Option, Some, None}
+use Rattle.std.specs.Option.{option_map_or}
+use Rattle.pl_base.specs.declared.number.EncNo.{EncNo}
 use Rattle.pl_base.specs.declared.refusal.No.{No}
 use Rattle.pl_base.specs.declared.refusal.No.TheVariants.{NoEnclave, Full, Empty}
 use Rattle.pl_base.specs.declared.state.State.TheVariants.{Free, Building}
@@ -112,3 +114,50 @@ pages_held enclave = filter_map page_if_own enclave.pages ++ enclave.spares
 -- the record of a number that is free again: only its image, its registers and its hart stay, which mean nothing then
 abbrev pub freed : Enclave → Enclave
 freed enclave = record free_enclave { image = enclave.image; context = enclave.context; hart = enclave.hart }
+
+-- ---- copy on write
+
+-- a page that is a shadow's
+abbrev pub is_shared : PageKind → Bool
+is_shared (Own page) = false
+is_shared (Shared page) = true
+
+-- page `index` of the image is shared
+abbrev pub is_shared_at : Enclave → ℕ → Bool
+is_shared_at enclave index = option_map_or is_shared (slice_get enclave.pages index) false
+
+-- the same page, shared
+abbrev pub as_shared : PageKind → PageKind
+as_shared kind = Shared (page_number_of kind)
+
+-- the record of a number that is being built as a fork of a shadow, with these spares: it has the shadow's image and registers, and shares its pages
+abbrev pub forked : EncNo → Enclave → List ℕ → Enclave → Enclave
+forked shadow source spares enclave = record {
+  image = source.image;
+  pages = map as_shared source.pages;
+  spares = spares;
+  given = length spares;
+  context = source.context;
+  sent = [];
+  received = 0;
+  out = [];
+  shown = 0;
+  taken = 0;
+  retired = 0;
+  state = Building;
+  hart = enclave.hart;
+  parent = Some shadow;
+}
+
+-- a page is the last of the spares
+abbrev pub with_spare : Enclave → ℕ → Enclave
+with_spare enclave page = record enclave { spares = enclave.spares ++ page ∷ []; given = enclave.given + 1 }
+
+-- the spare that is used next, where one is left
+abbrev pub next_spare : Enclave → ℕ
+next_spare enclave = slice_index enclave.spares 0
+
+-- page `index` of the image is the number's own: its next spare, which leaves the spares
+abbrev pub with_own_page : Enclave → ℕ → Enclave
+with_own_page enclave index =
+    record enclave { pages = slice_set enclave.pages index (Own (next_spare enclave)); spares = drop 1 enclave.spares }

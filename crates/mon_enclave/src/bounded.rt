@@ -1,5 +1,5 @@
 // A list whose room is taken when it is made.
-ghost use Rattle.std.specs.Prelude.{◌≡◌, ◌≤◌, ◌<◌, [], ◌∷◌, ◌++◌, length, IfOk};
+ghost use Rattle.std.specs.Prelude.{◌≡◌, ◌≤◌, ◌<◌, [], ◌∷◌, ◌++◌, length, drop, slice_set, IfOk};
 
 use std::alloc::{AllocError, Global};
 use std::marker::Model;
@@ -62,5 +62,21 @@ impl<T: Drop, const N: usize> Bounded<T, N> {
         ensures { self.new ≡ self.old ++ item ∷ [] }
     {
         self.items.push(item).unwrap();
+    }
+
+    /// Puts another item at a place.
+    pub fn set(&mut self, place: usize, item: T)
+        requires { place < length self.old }
+        ensures { self.new ≡ slice_set self.old place item }
+    {
+        self.items[place] = item;
+    }
+
+    /// Takes the first item out. The room stays.
+    pub fn remove_first(&mut self)
+        requires { 0 < length self.old }
+        ensures { self.new ≡ drop 1 self.old }
+    {
+        self.items.remove(0);
     }
 }

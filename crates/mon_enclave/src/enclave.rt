@@ -1,5 +1,5 @@
 // The record of one enclave number.
-ghost use Rattle.std.specs.Prelude.{◌≡◌, ◌≤◌, ◌+◌, [], ◌∷◌, ◌++◌, length, map, IfOk, OnOk, OnErr, OnSome, IfNone};
+ghost use Rattle.std.specs.Prelude.{◌≡◌, ◌≤◌, ◌<◌, ◌+◌, true, [], ◌∷◌, ◌++◌, length, map, IfOk, OnOk, OnErr, OnSome, IfNone};
 ghost use Rattle.std.specs.Bool.{OnTrue, OnFalse};
 ghost use Rattle.std.specs.Result.{result_err};
 ghost use Rattle.pl_base.specs.States.{state_left};
@@ -21,7 +21,7 @@ pub enum PageKind {
 }
 
 impl PageKind {
-    ghost use Rattle.mon_enclave.specs.Records.{page_number_of};
+    ghost use Rattle.mon_enclave.specs.Records.{is_shared, page_number_of};
 
     /// The page's number.
     pub fn page(self) -> u32
@@ -30,6 +30,13 @@ impl PageKind {
         match self {
             PageKind::Own(page) | PageKind::Shared(page) => page,
         }
+    }
+
+    /// Whether it is a shadow's.
+    pub fn is_shared(self) -> bool
+        ensures { result ≡ is_shared self }
+    {
+        matches!(self, PageKind::Shared(_))
     }
 }
 
@@ -86,8 +93,19 @@ fn own(list: &mut Bounded<PageKind, MOST_IMAGE_PAGES>, pages: &[u32])
     }
 }
 
+// Fills the empty list with these spares.
+fn fill(list: &mut Bounded<u32, MOST_SPARES>, spares: &[u32])
+    requires empty { list.old ≡ [] }
+    requires few { length spares.now ≤ 256 }
+    ensures { list.new ≡ spares.now }
+{
+    for page in spares {
+        list.push(*page);
+    }
+}
+
 impl Enclave {
-    ghost use Rattle.mon_enclave.specs.Records.{IsEnclave, built, free_enclave, freed, has_room, received_word, send_refusal, take_refusal, taken_word};
+    ghost use Rattle.mon_enclave.specs.Records.{IsEnclave, built, forked, free_enclave, freed, has_room, is_shared_at, next_spare, received_word, send_refusal, take_refusal, taken_word, with_own_page, with_spare};
 
     // The record of a free number, with room for all that it may hold.
     pub(crate) fn new(alloc: Global) -> Result<Enclave, AllocError>
@@ -216,5 +234,51 @@ impl Enclave {
         }
         self.out.push(word);
         true
+    }
+
+    // Begins to build it as a fork of shadow `s`, with this image and these registers, and no page yet.
+    pub(crate) fn begin_fork(&mut self, s: EncNo, image: u8, context: Context, spares: &[u32])
+        requires { length spares.now ≤ 256 }
+        ensures { self.new ≡ forked s (record self.old { image = image; pages = []; context = context }) spares.now self.old }
+    {
+        self.free();
+        self.image = image;
+        fill(&mut self.spares, spares);
+        self.given = spares.len() as u32;
+        self.context = context;
+        self.state = State::Building;
+        self.parent = Some(s);
+    }
+
+    // It shares one more page.
+    pub(crate) fn share(&mut self, page: u32)
+        requires { length self.old.pages < 256 }
+        ensures { self.new ≡ record self.old { pages = self.old.pages ++ PageKind.Shared page ∷ [] } }
+    {
+        self.pages.push(PageKind::Shared(page));
+    }
+
+    pub(crate) fn add_spare(&mut self, page: u32)
+        requires kept { IsEnclave self.old }
+        requires given { self.old.given < 256 }
+        ensures now { self.new ≡ with_spare self.old page }
+        ensures kept { IsEnclave self.new }
+    {
+        self.spares.push(page);
+        self.given += 1;
+    }
+
+    pub(crate) fn own_page(&mut self, index: u32) -> u32
+        requires kept { IsEnclave self.old }
+        requires shared { is_shared_at self.old index ≡ true }
+        requires spare { 0 < length self.old.spares }
+        ensures page { result ≡ next_spare self.old }
+        ensures now { self.new ≡ with_own_page self.old index }
+        ensures kept { IsEnclave self.new }
+    {
+        let spare = self.spares.as_slice()[0];
+        self.pages.set(index as usize, PageKind::Own(spare));
+        self.spares.remove_first();
+        spare
     }
 }

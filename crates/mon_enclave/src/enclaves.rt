@@ -1,10 +1,11 @@
 // The records of all enclave numbers.
-ghost use Rattle.std.specs.Prelude.{◌≡◌, ◌≤◌, ◌<◌, ◌+◌, ◌-◌, ◌^◌, [], ◌∷◌, ◌++◌, length, replicate, IfOk, OnOk, OnErr, OnSome, IfNone};
+ghost use Rattle.std.specs.Prelude.{◌≡◌, ◌≤◌, ◌<◌, ◌+◌, ◌-◌, ◌^◌, true, [], ◌∷◌, ◌++◌, length, replicate, IfOk, OnOk, OnErr, OnSome, IfNone};
 ghost use Rattle.std.specs.Bool.{OnTrue, OnFalse};
 ghost use Rattle.std.specs.Result.{result_err};
 ghost use Rattle.pl_base.specs.States.{state_left};
 
 use crate::Enclave;
+use crate::forks::fork_in;
 use mon_image::Image;
 use pl_base::{EncNo, HartNo, Memory, No, State, Why};
 use rv_alone::Context;
@@ -18,7 +19,7 @@ pub struct Enclaves {
 }
 
 impl Model for Enclaves {
-    ghost use Rattle.std.specs.Prelude.{List, All};
+    ghost use Rattle.std.specs.Prelude.{List, All, length, ◌≤◌};
     ghost use Rattle.mon_enclave.specs.declared.enclave.Enclave.{Enclave};
 
     ghost Value = { List Enclave };
@@ -27,11 +28,11 @@ impl Model for Enclaves {
 
     ghost view = { λ a. a.enclaves.items };
 
-    ghost invariant = { λ a. All IsEnclave a.enclaves.items };
+    ghost invariant = { λ a. All IsEnclave a.enclaves.items × (length a.enclaves.items ≤ 64) };
 }
 
 impl Enclaves {
-    ghost use Rattle.mon_enclave.specs.Records.{IsEnclave, built, enclave_at, free_enclave, freed, has_room, received_word, send_refusal, take_refusal, taken_word, with_enclave};
+    ghost use Rattle.mon_enclave.specs.Records.{IsEnclave, built, enclave_at, forked, free_enclave, freed, has_room, is_shared_at, next_spare, received_word, send_refusal, take_refusal, taken_word, with_enclave, with_own_page, with_spare};
 
     /// So many free numbers, 1 to 64, with room for all that they may hold.
     pub fn new(alloc: Global, count: u8) -> Result<Enclaves, Memory>
@@ -48,7 +49,8 @@ impl Enclaves {
 
     /// How many numbers there are.
     pub fn len(&self) -> usize
-        ensures { result ≡ length self.now }
+        ensures value { result ≡ length self.now }
+        ensures few { result ≤ 64 }
     {
         self.enclaves.len()
     }
@@ -165,5 +167,39 @@ impl Enclaves {
         ensures full { OnFalse result (self.new ≡ self.old) }
     {
         self.enclaves[usize::from(e.0)].send_out(word)
+    }
+
+    /// Begins to build a free number as a fork of shadow `s`, with these spares: it has the image and the registers of `s`, and shares its pages.
+    ///
+    /// No word was sent to it or out. `hart` stays.
+    pub fn build_fork(&mut self, s: EncNo, e: EncNo, spares: &[u32])
+        requires shadow { s.0 < length self.old }
+        requires number { e.0 < length self.old }
+        requires sealed { (enclave_at self.old s.0).state ≡ State.Sealed }
+        requires free { (enclave_at self.old e.0).state ≡ State.Free }
+        requires few { length spares.now ≤ 256 }
+        ensures { self.new ≡ with_enclave self.old e.0 (forked s (enclave_at self.old s.0) spares.now (enclave_at self.old e.0)) }
+    {
+        fork_in(&mut self.enclaves, s, e, spares);
+    }
+
+    /// Gives a number one more spare, behind those that it has.
+    pub fn add_spare(&mut self, e: EncNo, page: u32)
+        requires number { e.0 < length self.old }
+        requires given { (enclave_at self.old e.0).given < 256 }
+        ensures { self.new ≡ with_enclave self.old e.0 (with_spare (enclave_at self.old e.0) page) }
+    {
+        self.enclaves[usize::from(e.0)].add_spare(page);
+    }
+
+    /// The first spare, which takes the place of shared page `index` of the image: that page is the number's own now.
+    pub fn own_page(&mut self, e: EncNo, index: u32) -> u32
+        requires number { e.0 < length self.old }
+        requires shared { is_shared_at (enclave_at self.old e.0) index ≡ true }
+        requires spare { 0 < length (enclave_at self.old e.0).spares }
+        ensures page { result ≡ next_spare (enclave_at self.old e.0) }
+        ensures now { self.new ≡ with_enclave self.old e.0 (with_own_page (enclave_at self.old e.0) index) }
+    {
+        self.enclaves[usize::from(e.0)].own_page(index)
     }
 }

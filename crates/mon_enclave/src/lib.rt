@@ -4,6 +4,7 @@
 mod bounded;
 mod enclave;
 mod enclaves;
+mod forks;
 
 pub use bounded::Bounded;
 pub use enclave::{Enclave, PageKind};

@@ -9,6 +9,9 @@ use std::test::Fail;
 // The number that the tests change.
 const ONE: EncNo = EncNo(1);
 
+// The number that is forked from it.
+const TWO: EncNo = EncNo(2);
+
 // A call on number 1.
 #[derive(Clone, Copy, Debug)]
 enum Call {
@@ -65,6 +68,33 @@ fn left(rt: &impl Abort, enclaves: &mut Enclaves, why: Why) {
     enclaves.left(ONE, why);
 }
 
+// Number 1 is a shadow, and number 2 its fork.
+fn fork(rt: &impl Abort, enclaves: &mut Enclaves) {
+    assert!(rt; 2 < enclaves.len());
+    enclaves.set_state(ONE, State::Sealed);
+    let State::Free = enclaves.get(TWO).state else {
+        panic!(rt; "it isn't free");
+    };
+    enclaves.build_fork(ONE, TWO, &[20, 21]);
+}
+
+fn add_spare(rt: &impl Abort, enclaves: &mut Enclaves, page: u32) {
+    assert!(rt; 2 < enclaves.len());
+    assert!(rt; enclaves.get(TWO).given < 256);
+    enclaves.add_spare(TWO, page);
+}
+
+// Page 1 of number 2 becomes its own.
+fn own_page(rt: &impl Abort, enclaves: &mut Enclaves) -> u32 {
+    assert!(rt; 2 < enclaves.len());
+    assert!(rt; enclaves.get(TWO).spares.len() > 0);
+    let Some(kind) = enclaves.get(TWO).pages.as_slice().get(1) else {
+        panic!(rt; "there is no page 1");
+    };
+    assert!(rt; kind.is_shared());
+    enclaves.own_page(TWO, 1)
+}
+
 // What a call answers.
 fn answer(
     rt: &impl Abort,
@@ -119,6 +149,12 @@ const FREE: &str =
 
 const FREED: &str =
     "Free on 2 pc 1000c x2 12000 retired 0 sent [] 0 out [] 0 0 image 3 pages [] spares [] of 0 parent None";
+
+const FORKED: &str =
+    "Building on 0 pc 10008 x2 12000 retired 0 sent [] 0 out [] 0 0 image 3 pages [Shared(9), Shared(4)] spares [20, 21] of 2 parent Some(EncNo(1))";
+
+const BROKEN: &str =
+    "Building on 0 pc 10008 x2 12000 retired 0 sent [] 0 out [] 0 0 image 3 pages [Shared(9), Own(20)] spares [21, 8] of 3 parent Some(EncNo(1))";
 
 const OWN: &str = "image 3 pages [Own(9), Own(4)] spares [] of 0 parent None";
 
@@ -217,6 +253,22 @@ fn a_number_from_free_to_built_again(rt: HostRuntime) -> Result<(), Fail> {
         format!(in alloc; "Building on 2 pc 10008 x2 12000 retired 0 sent [] 0 out [] 0 0 {OWN}")?
     );
     assert_eq!(rt; record(&rt, alloc, &enclaves, 0)?.as_str(), FREE);
+    Ok(())
+}
+
+#[test]
+fn a_fork_shares_its_pages_until_they_are_broken(rt: HostRuntime) -> Result<(), Fail> {
+    let alloc = rt.alloc();
+    let image = image(alloc)?;
+    let mut enclaves = Enclaves::new(alloc, 3)?;
+    build(&rt, &mut enclaves, &image);
+    fork(&rt, &mut enclaves);
+    let forked = record(&rt, alloc, &enclaves, 2)?;
+    assert_eq!(rt; forked.as_str(), FORKED);
+    add_spare(&rt, &mut enclaves, 8);
+    assert_eq!(rt; own_page(&rt, &mut enclaves), 20);
+    let broken = record(&rt, alloc, &enclaves, 2)?;
+    assert_eq!(rt; broken.as_str(), BROKEN);
     Ok(())
 }
 

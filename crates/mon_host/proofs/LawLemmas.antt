@@ -78,7 +78,7 @@ maps_tell walk sets d law = record {
       (λ none.
       let told = leaf_told tables fences va none d law (map_refusal owners page) (leaf_word page perms Super) (λ word. tt) g kept guarded in
       keeps_leaves d tables g.ctl _ kept.trees.sizes.mirror_size guarded told.leaves.same_zones va (at tables fences va none) (map_refusal owners page) (leaf_word page perms Super) (λ word. tt)
-      (leaf_fits page perms small allowed) (new_leaf owners page _ (64 * g.ctl.zones) perms allowed inside) leaves _ told.tells);
+      (leaf_fits page perms Super small allowed) (new_leaf owners page _ (64 * g.ctl.zones) perms allowed inside) leaves _ told.tells);
 }
 
 pub unmaps_tell : HostTablesWalk → ClearsMapping → (d : List ℕ → List ℕ) → HasDigests d → UnmapsTell d

@@ -11,7 +11,8 @@ use Rattle.pl_base.specs.Bytes.{bytes_at, with_bytes}
 use Rattle.pl_base.specs.Perms.{are_page_perms, grants}
 use Rattle.pl_base.specs.declared.access.Kind.TheVariants.{Store}
 use Rattle.pl_base.specs.Refusals.{refuse, first_refusal}
-use Rattle.pl_base.specs.declared.access.Mode.TheVariants.{Super}
+use Rattle.pl_base.specs.declared.access.Mode.TheVariants.{Super, User}
+use Rattle.pl_base.specs.declared.access.Mode.{Mode}
 use Rattle.pl_base.specs.declared.address.Va.{Va}
 use Rattle.pl_base.specs.declared.perms.Perms.{Perms}
 use Rattle.pl_base.specs.declared.refusal.No.{No}
@@ -27,7 +28,7 @@ use Rattle.mon_owner.specs.Owners.{is_host, owner_at}
 use Rattle.mon_tables.specs.Space.{Mapping, mapping_at, without_vpn}
 use Rattle.mon_tables.specs.SpaceWalks.{ClearsMapping, HostTables, HostTablesWalk, IsMappable, SetsMapping, with_word, word_address, word_of}
 use Rattle.mon_tables.specs.Tables.{can_be_mapped, host_slot, slot_address}
-use Rattle.mon_tables.specs.Words.{dirty_bit, leaf_word, ppn_of_page}
+use Rattle.mon_tables.specs.Words.{dirty_bit, leaf_word, ppn_of_page, user_bit}
 use Rattle.mon_tables.proofs.Mappings.{found, none_some, same_Some}
 use Rattle.mon_tables.proofs.WordBits.{ppn_of-leaf}
 use Rattle.mon_host.specs.Laws.{AnswersBy, HappensIn, SpacesHaveLeaves, WordChanges, WordTells, map_refusal_in, mirror_words, new_mapping, places_of, unmap_refusal_in, word_in}
@@ -70,11 +71,11 @@ pub word_of_page : (memory : List ℕ) (page at : ℕ) → at + 8 ≤ 4096 → w
 word_of_page memory page at inside = ap (little_number 8) (sym (bytes_at-bytes_at memory (4096 * page) 4096 at 8 inside))
 
 module _ (x y : CtlData) where
-  same_page : (page at : ℕ) → at + 8 ≤ 4096 → page_bytes y.mirror page ≡ page_bytes x.mirror page → word_at y.mirror page at ≡ word_at x.mirror page at
+  pub same_page : (page at : ℕ) → at + 8 ≤ 4096 → page_bytes y.mirror page ≡ page_bytes x.mirror page → word_at y.mirror page at ≡ word_at x.mirror page at
   same_page page at inside same = word_of_page y.mirror page at inside ∙ ap (λ (bytes : List ℕ). little_number 8 (bytes_at bytes at 8)) same ∙ sym (word_of_page x.mirror page at inside)
 
   -- the words of tables that stayed
-  stayed_words : BothStay x y → (page k : ℕ) → page < 64 * x.zones → k < 512 → mirror_words y (word_address page k) ≡ mirror_words x (word_address page k)
+  pub stayed_words : BothStay x y → (page k : ℕ) → page < 64 * x.zones → k < 512 → mirror_words y (word_address page k) ≡ mirror_words x (word_address page k)
   stayed_words stays page k there small =
       let p : ℕ = word_address page k / 4096 - 0x80000 in
       let p_is : p ≡ page = omega arith in
@@ -155,7 +156,7 @@ module _ (x y : CtlData) where
         ]
 
     -- so the tables have this word, and all others as before
-    changed_words : (page k : ℕ) → page < 64 * x.zones → k < 512 → mirror_words y (word_address page k) ≡ with_word (mirror_words x) (slot_address slot) word (word_address page k)
+    pub changed_words : (page k : ℕ) → page < 64 * x.zones → k < 512 → mirror_words y (word_address page k) ≡ with_word (mirror_words x) (slot_address slot) word (word_address page k)
     changed_words page k below small =
         let address : ℕ = word_address page k in
         let p : ℕ = address / 4096 - 0x80000 in
@@ -239,9 +240,14 @@ module _ (walk : HostTablesWalk) (d : List ℕ → List ℕ) {A : Type 0} (table
   happens (Collision place held other) tells = happens_by (Collision place held other) tt (still tells.0)
   happens (Again taken root) tells = absurd tells
 
-pub leaf_fits : (page : ℕ) (perms : Perms) → page < 2 ^ 32 → IsTrue (are_page_perms perms) → leaf_word page perms Super < 2 ^ 64
-leaf_fits page perms small allowed =
+user_bit-few : (mode : Mode) → user_bit mode ≤ 16
+user_bit-few Super = omega arith
+user_bit-few User = omega arith
+
+pub leaf_fits : (page : ℕ) (perms : Perms) (mode : Mode) → page < 2 ^ 32 → IsTrue (are_page_perms perms) → leaf_word page perms mode < 2 ^ 64
+leaf_fits page perms mode small allowed =
     let bits : perms.0 ≤ 7 = grind (arith, nat_tests) in
+    let user : user_bit mode ≤ 16 = user_bit-few mode in
     elim (cases_Bool (grants perms Store)) [
       | inl stores ↦ let dirty : dirty_bit perms ≡ 128 = cond-true _ _ _ stores in omega arith
       | inr reads ↦ let dirty : dirty_bit perms ≡ 0 = cond-false _ _ _ reads in omega arith
@@ -275,7 +281,7 @@ module _ (walk : HostTablesWalk) (d : List ℕ → List ℕ) (tables : ℕ) (few
       let added : List Mapping = space ++ new_mapping va page perms ∷ [] in
       let found_at : Option Mapping = mapping_at space (vpn_of va).0 in
       happens walk d tables few x y guarded space added slot (map_refusal owners page) word (λ w. tt) (map_refusal_in space owners va page) stand (map_refusal_same found_at owners page (word_in x slot) word_is)
-      (λ none change. with_word_stands word added (leaf_fits page perms small allowed) change (sets tables (mirror_words x) space (new_mapping va page perms) slot few at.slot_is (none_mapped found_at _ none) stand))
+      (λ none change. with_word_stands word added (leaf_fits page perms Super small allowed) change (sets tables (mirror_words x) space (new_mapping va page perms) slot few at.slot_is (none_mapped found_at _ none) stand))
 
   -- a mapping is removed
   pub unmap_happens : ClearsMapping → (o : Outcome (Result ℕ No)) → AccessTells d (places_of slot) (WordTells slot unmap_refusal 0 page_of_leaf x y) x o y

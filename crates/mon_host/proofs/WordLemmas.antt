@@ -18,7 +18,7 @@ use Rattle.mon_host.specs.Leaves.{word_replaced, written_unless}
 
 -- ---- one access after another
 
-Leaves-then : (d : List ℕ → List ℕ) (x y z : CtlData) → Leaves d x y → Leaves d y z → Leaves d x z
+pub Leaves-then : (d : List ℕ → List ℕ) (x y z : CtlData) → Leaves d x y → Leaves d y z → Leaves d x z
 Leaves-then d x y z first second = record {
   kept = second.kept;
   same_zones = second.same_zones ∙ first.same_zones;
@@ -26,7 +26,7 @@ Leaves-then d x y z first second = record {
   still_written = λ index as_written. second.still_written index (first.still_written index as_written);
 }
 
-BothStay-then : (x y z : CtlData) → y.zones ≡ x.zones → BothStay x y → BothStay y z → BothStay x z
+pub BothStay-then : (x y z : CtlData) → y.zones ≡ x.zones → BothStay x y → BothStay y z → BothStay x z
 BothStay-then x y z zones first second = record {
   off_chip_zones = subst (λ n. KeepsZones n y.off_chip z.off_chip) zones second.off_chip_zones ∙ first.off_chip_zones;
   mirror_zones = subst (λ n. KeepsZones n y.mirror z.mirror) zones second.mirror_zones ∙ first.mirror_zones;
@@ -34,7 +34,7 @@ BothStay-then x y z zones first second = record {
   mirror_pages = λ page below. subst (λ n. KeepsPages n y.mirror z.mirror) zones second.mirror_pages page below ∙ first.mirror_pages page below;
 }
 
-BothChange-after : (x y z : CtlData) (page : ℕ) (change : List ℕ → List ℕ) → y.zones ≡ x.zones → page < 64 * x.zones → BothStay x y → BothChange page change y z → BothChange page change x z
+pub BothChange-after : (x y z : CtlData) (page : ℕ) (change : List ℕ → List ℕ) → y.zones ≡ x.zones → page < 64 * x.zones → BothStay x y → BothChange page change y z → BothChange page change x z
 BothChange-after x y z page change zones there first second = record {
   off_chip_pages = change_after x.zones y.zones page change x.off_chip y.off_chip z.off_chip zones there first.off_chip_pages second.off_chip_pages;
   mirror_pages = change_after x.zones y.zones page change x.mirror y.mirror z.mirror zones there first.mirror_pages second.mirror_pages;

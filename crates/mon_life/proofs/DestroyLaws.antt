@@ -18,9 +18,10 @@ use Rattle.mon_fence.specs.Fences.{covers, fence_of, posted}
 use Rattle.mon_fence.proofs.Needs.{fence_of-set_other, fence_of-set_same}
 use Rattle.mon_owner.specs.declared.owners.Owner.{Owner}
 use Rattle.mon_owner.specs.declared.owners.Owner.TheVariants.{Host}
+use Rattle.mon_owner.specs.Owners.{given_to}
 use Rattle.mon_owner.proofs.OwnerLists.{given_listed, given_other, length-given_to}
 use Rattle.mon_enclave.specs.declared.enclave.Enclave.{Enclave}
-use Rattle.mon_enclave.specs.Records.{enclave_at, freed}
+use Rattle.mon_enclave.specs.Records.{enclave_at, freed, with_enclave}
 use Rattle.mon_enclave.proofs.RecordLists.{other_record, record_there}
 use Rattle.mon_life.specs.Destroying.{DestroyBegun, all_zeroed, destroy_begun, destroy_ended, destroy_refusal_of, dying_unless, held_by}
 use Rattle.mon_life.specs.Putting.{in_state}
@@ -29,13 +30,13 @@ use Rattle.mon_life.proofs.GivenBack.{FitsIn, length-all_zeroed, listed_zero, of
 
 -- ---- it begins
 
-neither : (absent under_way : Bool) (first second : No) → first_refusal (refuse absent first ∷ refuse under_way second ∷ []) ≡ None
+pub neither : (absent under_way : Bool) (first second : No) → first_refusal (refuse absent first ∷ refuse under_way second ∷ []) ≡ None
     → (absent ≡ false) × (under_way ≡ false)
 neither true under_way first second none = cc
 neither false true first second none = cc
 neither false false first second none = (refl, refl)
 
-neither_refuses : (absent under_way : Bool) (first second : No) → absent ≡ false → under_way ≡ false
+pub neither_refuses : (absent under_way : Bool) (first second : No) → absent ≡ false → under_way ≡ false
     → first_refusal (refuse absent first ∷ refuse under_way second ∷ []) ≡ None
 neither_refuses absent under_way first second there at_rest =
     ap (λ a. first_refusal (refuse a first ∷ refuse under_way second ∷ [])) there ∙ ap (λ u. first_refusal (refuse false first ∷ refuse u second ∷ [])) at_rest
@@ -73,8 +74,8 @@ destroys_begin enclaves fences h e number hart =
 
 -- ---- it ends
 
-module _ (d : List ℕ → List ℕ) (ctl : CtlData) (owners : List Owner) (enclaves : List Enclave) (fences : List (Option Fence)) (h e : ℕ)
-    (kept : IsKept d ctl) (sizes : length owners ≡ 64 * ctl.zones) (number : e < length enclaves) (hart : h < length fences)
+module _ (d : List ℕ → List ℕ) (ctl : CtlData) (owners : List Owner) (enclaves : List Enclave) (e : ℕ)
+    (kept : IsKept d ctl) (sizes : length owners ≡ 64 * ctl.zones) (number : e < length enclaves)
     (inside : All (λ page. page < 64 * ctl.zones) (held_by enclaves e)) where
   abbrev pages : List ℕ
   pages = held_by enclaves e
@@ -97,8 +98,7 @@ module _ (d : List ℕ → List ℕ) (ctl : CtlData) (owners : List Owner) (encl
     | inr other ↦ other
   ]
 
-  pub is_given_back : IsGivenBack d ctl owners enclaves fences h e (destroy_ended ctl owners enclaves fences h e)
-  unfolding destroy_ended
+  pub is_given_back : IsGivenBack d ctl (all_zeroed ctl pages) owners (given_to owners pages (Host 0)) enclaves (with_enclave enclaves e (freed (enclave_at enclaves e))) e
   is_given_back = record {
     zeroed = λ page among. listed_zero size ctl pages page refl fit among;
     other_pages = λ page other. other_pages size ctl pages page refl fit other;
@@ -111,9 +111,12 @@ module _ (d : List ℕ → List ℕ) (ctl : CtlData) (owners : List Owner) (encl
     as_many_owners = length-given_to owners (Host 0) pages;
     free = record_there enclaves e (freed (enclave_at enclaves e)) number;
     other_numbers = λ other apart. other_record enclaves e other (freed (enclave_at enclaves e)) apart;
-    left = fence_of-set_same fences h None hart;
-    other_fences = λ other apart. fence_of-set_other fences h other None apart;
   }
 
 pub numbers_are_given_back : (d : List ℕ → List ℕ) → NumbersAreGivenBack d
-numbers_are_given_back d ctl owners enclaves fences h e kept sizes number hart inside = is_given_back d ctl owners enclaves fences h e kept sizes number hart inside
+unfolding destroy_ended
+numbers_are_given_back d ctl owners enclaves fences h e kept sizes number hart inside = record {
+  back = is_given_back d ctl owners enclaves e kept sizes number inside;
+  left = fence_of-set_same fences h None hart;
+  other_fences = λ other apart. fence_of-set_other fences h other None apart;
+}

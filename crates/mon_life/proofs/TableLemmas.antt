@@ -28,7 +28,7 @@ use Rattle.mon_life.proofs.WordsInBytes.{FitsWord, length-words, word_of_words}
 
 -- ---- how long they are
 
-leaves_count : (kinds : List PageKind) (image : List ImagePage) → length kinds ≡ length image → length (leaves_of kinds image) ≡ length image
+pub leaves_count : (kinds : List PageKind) (image : List ImagePage) → length kinds ≡ length image → length (leaves_of kinds image) ≡ length image
 unfolding leaves_of
 leaves_count kinds image count = length-map (zip kinds image) pair_leaf ∙ (length-zip kinds image ∙ omega arith)
 

@@ -120,31 +120,34 @@ DestroysBegin = (enclaves : List Enclave) (fences : List (Option Fence)) (h : �
     → DestroyBegins enclaves fences h e (destroy_begun enclaves fences h e)
 
 module _ (digest_of : List ℕ → List ℕ) where
-  -- what is left of a number that held these pages, once it is given back
-  pub record IsGivenBack (ctl : CtlData) (owners : List Owner) (enclaves : List Enclave) (fences : List (Option Fence)) (h e : ℕ) (ended : DestroyEnded) : Type 0 where
+  -- what is left of a number that held pages, once it is given back
+  pub record IsGivenBack (ctl ctl_now : CtlData) (owners owners_now : List Owner) (enclaves enclaves_now : List Enclave) (e : ℕ) : Type 0 where
     -- off chip its pages are zero; all other pages, all nodes and the root table are as before
-    pub zeroed : (page : ℕ) → is_among (held_by enclaves e) page ≡ true → page_bytes ended.ctl.off_chip page ≡ zero_page
-    pub other_pages : (page : ℕ) → is_among (held_by enclaves e) page ≡ false → page_bytes ended.ctl.off_chip page ≡ page_bytes ctl.off_chip page
-    pub other_bytes : (index : ℕ) → is_among (held_by enclaves e) (index / 4096) ≡ false → slice_get ended.ctl.off_chip index ≡ slice_get ctl.off_chip index
-    pub nodes : (index : ℕ) → 4096 * (64 * ctl.zones) ≤ index → slice_get ended.ctl.off_chip index ≡ slice_get ctl.off_chip index
+    pub zeroed : (page : ℕ) → is_among (held_by enclaves e) page ≡ true → page_bytes ctl_now.off_chip page ≡ zero_page
+    pub other_pages : (page : ℕ) → is_among (held_by enclaves e) page ≡ false → page_bytes ctl_now.off_chip page ≡ page_bytes ctl.off_chip page
+    pub other_bytes : (index : ℕ) → is_among (held_by enclaves e) (index / 4096) ≡ false → slice_get ctl_now.off_chip index ≡ slice_get ctl.off_chip index
+    pub nodes : (index : ℕ) → 4096 * (64 * ctl.zones) ≤ index → slice_get ctl_now.off_chip index ≡ slice_get ctl.off_chip index
     -- the mirror, the slots and the root on chip are as before, and the trees hold
-    pub off_chip_alone : ended.ctl ≡ with_off_chip ctl ended.ctl.off_chip
-    pub kept : IsKept digest_of ended.ctl
+    pub off_chip_alone : ctl_now ≡ with_off_chip ctl ctl_now.off_chip
+    pub kept : IsKept digest_of ctl_now
     -- its pages are the host's, with no mappings, and each other page its owner's
-    pub given : (page : ℕ) → is_among (held_by enclaves e) page ≡ true → slice_get ended.owners page ≡ Some (owner.Host 0)
-    pub other_owners : (page : ℕ) → is_among (held_by enclaves e) page ≡ false → slice_get ended.owners page ≡ slice_get owners page
-    pub as_many_owners : length ended.owners ≡ length owners
+    pub given : (page : ℕ) → is_among (held_by enclaves e) page ≡ true → slice_get owners_now page ≡ Some (owner.Host 0)
+    pub other_owners : (page : ℕ) → is_among (held_by enclaves e) page ≡ false → slice_get owners_now page ≡ slice_get owners page
+    pub as_many_owners : length owners_now ≡ length owners
     -- its record is that of a free number, and each other number has its own
-    pub free : enclave_at ended.enclaves e ≡ freed (enclave_at enclaves e)
-    pub other_numbers : (other : ℕ) → other ≢ e → enclave_at ended.enclaves other ≡ enclave_at enclaves other
-    -- the hart has no fence, and each other hart its own
+    pub free : enclave_at enclaves_now e ≡ freed (enclave_at enclaves e)
+    pub other_numbers : (other : ℕ) → other ≢ e → enclave_at enclaves_now other ≡ enclave_at enclaves other
+
+  -- `destroy` ends: the number is given back, the hart has no fence, and each other hart its own
+  pub record IsDestroyed (ctl : CtlData) (owners : List Owner) (enclaves : List Enclave) (fences : List (Option Fence)) (h e : ℕ) (ended : DestroyEnded) : Type 0 where
+    pub back : IsGivenBack ctl ended.ctl owners ended.owners enclaves ended.enclaves e
     pub left : fence_of ended.fences h ≡ None
     pub other_fences : (other : ℕ) → other ≢ h → fence_of ended.fences other ≡ fence_of fences other
 
   abbrev pub NumbersAreGivenBack : Type 0
   NumbersAreGivenBack = (ctl : CtlData) (owners : List Owner) (enclaves : List Enclave) (fences : List (Option Fence)) (h e : ℕ) → IsKept digest_of ctl
       → length owners ≡ 64 * ctl.zones → e < length enclaves → h < length fences → All (λ page. page < 64 * ctl.zones) (held_by enclaves e)
-      → IsGivenBack ctl owners enclaves fences h e (destroy_ended ctl owners enclaves fences h e)
+      → IsDestroyed ctl owners enclaves fences h e (destroy_ended ctl owners enclaves fences h e)
 
 -- whatever a record was, the one that is built of it is the same, but for the hart that it was last on
 abbrev pub NothingIsLeft : Type 0

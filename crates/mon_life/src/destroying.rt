@@ -15,7 +15,7 @@ use pl_base::{EncNo, HartNo, MOST_IMAGE_PAGES, MOST_SPARES, No, Space, State};
 use pl_digest::Digester;
 
 /// How many pages a number holds at most.
-const MOST_HELD: usize = MOST_IMAGE_PAGES + MOST_SPARES;
+pub const MOST_HELD: usize = MOST_IMAGE_PAGES + MOST_SPARES;
 
 /// Begins to give a number back: it is dying, and the hart posts its fence of all of the number's space.
 ///
@@ -75,7 +75,7 @@ pub fn destroy_end<D: Digester, F>(
 }
 
 /// The pages that a number holds: those that are its own, and then its spares.
-fn held_by(enclaves: &Enclaves, e: EncNo) -> ArrayVec<u32, MOST_HELD>
+pub fn held_by(enclaves: &Enclaves, e: EncNo) -> ArrayVec<u32, MOST_HELD>
     requires { e.0 < length enclaves.now }
     ensures { result.items ≡ held_by enclaves.now e.0 }
 {
@@ -104,7 +104,7 @@ fn own_pages(kinds: &[PageKind]) -> ArrayVec<u32, MOST_HELD>
 }
 
 /// Makes all bytes of these pages zero, off chip alone.
-fn zero_all<D: Digester, F>(ctl: &mut Ctl<D, F>, pages: &[u32])
+pub fn zero_all<D: Digester, F>(ctl: &mut Ctl<D, F>, pages: &[u32])
     requires { All (λ page. page < 64 * ctl.old.0.zones) pages.now }
     ensures { ctl.new ≡ (all_zeroed ctl.old.0 pages.now, ctl.old.1) }
 {

@@ -43,7 +43,7 @@ pub fn create_begin(
 }
 
 /// Who owns the pages that a number takes.
-fn taker(e: EncNo, shadow: bool) -> Owner
+pub fn taker(e: EncNo, shadow: bool) -> Owner
     ensures { result ≡ taker e.0 shadow }
 {
     if shadow {
@@ -78,14 +78,14 @@ fn create_refusal(
 }
 
 /// The first page in a list that stands in it more than once.
-fn first_twice(pages: &[u32]) -> Option<u32>
+pub fn first_twice(pages: &[u32]) -> Option<u32>
     ensures { result ≡ first_twice pages.now }
 {
     pages.iter().copied().find(|page| pages.iter().filter(|other| **other == *page).count() > 1)
 }
 
 /// Why these pages can't be taken, one cause over the whole list and then the next.
-fn page_refusal(owners: &Owners, pmp: &Pmp, pages: &[u32]) -> Option<No>
+pub fn page_refusal(owners: &Owners, pmp: &Pmp, pages: &[u32]) -> Option<No>
     ensures { result ≡ first_refusal (page_refusals owners.now pmp.now pages.now) }
 {
     if let Some(page) = first_not_host(owners, pages) {

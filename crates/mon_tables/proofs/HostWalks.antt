@@ -67,10 +67,10 @@ module _ (tables : ℕ) (words : ℕ → ℕ) (space : List Mapping) (few : tabl
 
 -- ---- a word that changes
 
-word_same : (words : ℕ → ℕ) (at word : ℕ) → with_word words at word at ≡ word
+pub word_same : (words : ℕ → ℕ) (at word : ℕ) → with_word words at word at ≡ word
 word_same words at word = cond-true _ _ _ (let t : eqb at at ≡ true = grind (arith, nat_tests) in t)
 
-word_other : (words : ℕ → ℕ) (at word address : ℕ) → address ≢ at → with_word words at word address ≡ words address
+pub word_other : (words : ℕ → ℕ) (at word address : ℕ) → address ≢ at → with_word words at word address ≡ words address
 word_other words at word address other = cond-false _ _ _ (let t : eqb address at ≡ false = grind (arith, nat_tests) in t)
 
 -- the leaf word of a page changed, and only its mapping did

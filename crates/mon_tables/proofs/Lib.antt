@@ -1,4 +1,5 @@
 pub mod HostWalks
+pub mod LeafSets
 mod LeafWords
 pub mod Mappings
 pub mod NumberWalks

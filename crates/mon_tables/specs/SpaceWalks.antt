@@ -1,5 +1,5 @@
 -- What an address space gives an access, and when tables walk to it (RISC-V Privileged Architecture, Sv39).
-use Rattle.std.specs.Prelude.{◌≡◌, ℕ, ◌+◌, ◌*◌, ◌^◌, ◌<◌, ◌≤◌, ◌==◌, nat_lt, Bool, true, false, IsTrue, if◌then◌else◌, List, [], ◌∷◌, ◌++◌, length, slice_index, All, Option, Some, None, option_and_then}
+use Rattle.std.specs.Prelude.{◌≡◌, ℕ, ◌+◌, ◌*◌, ◌^◌, ◌<◌, ◌≤◌, ◌==◌, nat_lt, Bool, true, false, IsTrue, if◌then◌else◌, List, [], ◌∷◌, ◌++◌, length, slice_index, slice_set, All, Option, Some, None, option_and_then}
 use Rattle.pl_base.specs.ListedWords.{listed_word}
 use Rattle.pl_base.specs.Perms.{are_page_perms, grants}
 use Rattle.pl_base.specs.declared.access.Kind.{Kind}
@@ -11,7 +11,7 @@ use Rattle.rv_sv39.specs.Walk.{Answer, Walks}
 use Rattle.mon_tables.specs.declared.number_tables.Leaf.{Leaf}
 use Rattle.mem_geom.specs.Layout.{page_start}
 use Rattle.mon_tables.specs.Space.{first_vpn, IsSpace, Mapping, mapping_at, without_vpn}
-use Rattle.mon_tables.specs.Tables.{host_slot, root_of, slot_address, start_words, table_number, table_words}
+use Rattle.mon_tables.specs.Tables.{host_slot, leaf_of, number_slot, root_of, slot_address, start_words, table_number, table_words}
 use Rattle.mon_tables.specs.Words.{leaf_word, pointer_word, ppn_of_page}
 
 abbrev pub same_mode : Mode → Mode → Bool
@@ -90,6 +90,11 @@ SetsMapping = (tables : ℕ) (words : ℕ → ℕ) (space : List Mapping) (m : M
 abbrev pub ClearsMapping : Type 0
 ClearsMapping = (tables : ℕ) (words : ℕ → ℕ) (space : List Mapping) (vpn : ℕ) (slot : ℕ × ℕ) → tables ≤ 32 → host_slot tables vpn ≡ Some slot
     → HostTables tables words space → HostTables tables (with_word words (slot_address slot) 0) (without_vpn space vpn)
+
+-- a leaf that is set in a number's last table takes the place of the one that stood there
+abbrev pub SetsLeaf : Type 0
+SetsLeaf = (tables e index : ℕ) (words : ℕ → ℕ) (leaves : List Leaf) (leaf : Leaf) → length leaves ≤ 256 → index < length leaves → NumberTables tables e words leaves
+    → NumberTables tables e (with_word words (slot_address (number_slot tables e index)) (leaf_of leaf)) (slice_set leaves index leaf)
 
 -- a space stays one: no page is mapped twice
 pub record SpacesStay : Type 0 where

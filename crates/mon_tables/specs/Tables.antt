@@ -38,6 +38,10 @@ root_of tables space = record { 0 = ppn_of_page (if space == 0 then 0 else table
 abbrev pub slot_address : ℕ × ℕ → ℕ
 slot_address slot = 4096 * ppn_of_page slot.0 + slot.1
 
+-- page and offset of the leaf's word of a page of the image, by its place there, in a number's last table
+abbrev pub number_slot : ℕ → ℕ → ℕ → ℕ × ℕ
+number_slot tables e index = (table_number tables e 0, 8 * (first_vpn + index))
+
 abbrev pub leaf_of : Leaf → ℕ
 leaf_of leaf = leaf_word leaf.page leaf.perms User
 

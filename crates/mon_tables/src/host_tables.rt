@@ -3,15 +3,12 @@ ghost use Rattle.std.specs.Prelude.{◌≡◌, ◌≤◌};
 ghost use Rattle.pl_base.specs.ListedWords.{AreWordsOf};
 ghost use Rattle.mon_tables.specs.Tables.{host_slot, root_of, start_words};
 
-use crate::words::{pointer_word, ppn_of_page};
+use crate::words::{WORD_BYTES, pointer_word, ppn_of_page};
 use arrayvec::ArrayVec;
 use pl_base::{Ppn, Space, Vpn};
 
 /// How many words of a table there are.
 const TABLE_WORDS: u64 = 512;
-
-/// The bytes of a word.
-const WORD_BYTES: u16 = 8;
 
 /// How many words the guarded pages have at the start, at most: one for the middle table, and one for each last-level table.
 const MOST_START_WORDS: usize = 33;

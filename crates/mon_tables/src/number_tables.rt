@@ -1,9 +1,9 @@
 // The three tables of an enclave number.
 ghost use Rattle.std.specs.Prelude.{◌≡◌, ◌<◌, ◌≤◌, IsTrue, All, length};
 ghost use Rattle.pl_base.specs.Perms.{are_page_perms};
-ghost use Rattle.mon_tables.specs.Tables.{leaf_words, number_table_bytes, pointing_words, table_number, table_words};
+ghost use Rattle.mon_tables.specs.Tables.{leaf_words, number_slot, number_table_bytes, pointing_words, table_number, table_words};
 
-use crate::words::{leaf_word, pointer_word};
+use crate::words::{WORD_BYTES, leaf_word, pointer_word};
 use byteorder::{ByteOrder, LittleEndian};
 use pl_base::{EncNo, IMAGE_START, Mode, PAGE_BYTES, Perms};
 
@@ -56,6 +56,15 @@ pub fn table_number(tables: u8, e: EncNo, level: u8) -> u32
     ensures { result ≡ table_number tables e.0 level }
 {
     2 + u32::from(tables) + 3 * u32::from(e.0) + u32::from(2 - level)
+}
+
+/// Page and offset of the leaf's word of a page of the image, by its place there, in a number's last table.
+pub fn number_slot(tables: u8, e: EncNo, index: u32) -> (u32, u16)
+    requires { index < 256 }
+    ensures { result ≡ number_slot tables e.0 index }
+{
+    let word = FIRST_LEAF as u16 + index as u16;
+    (table_number(tables, e, 0), WORD_BYTES * word)
 }
 
 /// The words of a last table: the leaves stand from word 16 on, the page number of an image's first page.

@@ -1,5 +1,5 @@
 // Words of page tables, against values worked by hand.
-use crate::{Leaf, host_slot, leaf_word, root_of, start_words, table_page};
+use crate::{Leaf, host_slot, leaf_word, number_slot, root_of, start_words, table_page};
 use pl_base::{EncNo, Mode, Perms, Ppn, Space, Vpn};
 
 const READ_WRITE: Perms = Perms(3);
@@ -66,4 +66,5 @@ fn a_number_has_a_root_a_middle_and_a_last_table(rt: HostRuntime) {
         .as_slice()
     );
     assert_eq!(rt; page[4095], 0);
+    assert_eq!(rt; number_slot(1, EncNo(1), 0), (8, 128));
 }

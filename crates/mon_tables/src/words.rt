@@ -7,6 +7,9 @@ use mem_geom::MEMORY_START;
 use pl_base::{Kind, Mode, PAGE_BYTES, Perms};
 use rv_sv39::{A, D, U, V};
 
+/// The bytes of a word.
+pub(crate) const WORD_BYTES: u16 = 8;
+
 /// The physical page number of page 0 of off-chip memory.
 const FIRST_PPN: u64 = MEMORY_START / PAGE_BYTES;
 

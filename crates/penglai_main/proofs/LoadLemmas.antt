@@ -1,10 +1,8 @@
--- A generated load: each of its lines is built, and its run ends with each line answered, none by a fault.
-use Rattle.std.proofs.Common.{◌≡◌, ◌≢◌, ℕ, zero, suc, ◌+◌, ◌<◌, ◌≤◌, eqb, Bool, true, false, not, ◌&&◌, if◌then◌else◌, List, [], ◌∷◌, length, slice_get, unwrap_or, Option, Some, None, refl, sym, ap, ◌∙◌, inl, arith, cond, eq-eqb}
-use Rattle.std.specs.Prelude.{nat_lt}
-use Rattle.std.specs.List.{list_all, position_or_len, range_with_len}
-use Rattle.std.proofs.lemmas.Bool.{and_parts, false≢true}
+-- A generated load: its run ends with each line answered, none by a fault.
+use Rattle.std.proofs.Common.{◌≡◌, ◌≢◌, ℕ, zero, suc, ◌+◌, ◌<◌, ◌≤◌, eqb, Bool, true, false, not, ◌&&◌, if◌then◌else◌, List, [], ◌∷◌, length, slice_get, unwrap_or, Option, Some, None, refl, sym, ap, ◌∙◌, inl, arith, eq-eqb}
+use Rattle.std.specs.List.{list_all, range_with_len}
+use Rattle.std.proofs.lemmas.Bool.{false≢true}
 use Rattle.std.proofs.lemmas.Bool.Decides.{nat_tests}
-use Rattle.std.proofs.lemmas.List.Folds.{list_all-append}
 use Rattle.sha2.specs.Sha256.{sha256}
 use Rattle.pl_history.specs.declared.line.Line.{Line}
 use Rattle.pl_history.specs.declared.line.Line.TheVariants as line_is
@@ -18,10 +16,9 @@ use Rattle.world_machine.specs.declared.turned.Finished.TheVariants as finished
 use Rattle.world_machine.specs.Endings.{IsStuck}
 use Rattle.world_machine.specs.Runs.{all_answered}
 use Rattle.world_machine.specs.Standing.{Kept, state_of}
-use Rattle.world_machine.specs.Unbuilt.{first_unbuilt_of, is_built, joined}
 use Rattle.world_machine.specs.Worlds.{WorldData, answered_at, hart_line}
 use Rattle.world_machine.proofs.SetupFacts.{each_holds}
-use Rattle.world_setup.specs.Generating.{generated, scripts_of}
+use Rattle.world_setup.specs.Generating.{generated}
 use Rattle.world_setup.proofs.GeneratedValidity.{Passes, scripts_pass}
 use Rattle.penglai_main.specs.declared.solo.Printed.TheVariants as printed_is
 use Rattle.penglai_main.specs.declared.status.Status.{Status}
@@ -31,39 +28,6 @@ use Rattle.penglai_main.specs.Ends.{Ends}
 use Rattle.penglai_main.specs.Play.{Gives, IsRunOf, RunEnds, run_text}
 use Rattle.penglai_main.specs.Top.{Explains, IsLoad, IsOutput}
 use Rattle.penglai_main.proofs.EntryLemmas.{answered_within, unattacked}
-
--- ---- each line is built
-
-built : Passes is_built
-built = record {
-  creations = λ e known. refl;
-  sends = λ e word known. refl;
-  runs = λ e known. refl;
-  resumes = λ e known. refl;
-  takes = λ e known. refl;
-  destructions = λ e known. refl;
-}
-
-all_joined : (p : Line → Bool) (scripts : List (List Line)) → list_all (list_all p) scripts ≡ true → list_all p (joined scripts) ≡ true
-all_joined p [] all = refl
-all_joined p (lines ∷ scripts) all =
-    let parts = and_parts (list_all p lines) (list_all (list_all p) scripts) all in
-    list_all-append p lines (joined scripts) ∙ (rw (parts.0, all_joined p scripts parts.1) refl)
-
--- where all pass, none is found that doesn't
-all_pass : (p : Line → Bool) (lines : List Line) → list_all p lines ≡ true → position_or_len (λ line. not (p line)) lines ≡ length lines
-all_pass p [] all = refl
-all_pass p (line ∷ lines) all =
-    let parts = and_parts (p line) (list_all p lines) all in
-    rw parts.0 (omega (arith, all_pass p lines parts.1))
-
-none_found : (at len : ℕ) → at ≡ len → cond (nat_lt at len) (Some at) None ≡ None
-none_found at len same = grind (arith, nat_tests)
-
-pub generated_is_built : (n : ℕ) → first_unbuilt_of (generated n) ≡ None
-generated_is_built n =
-    none_found (position_or_len (λ line. not (is_built line)) (joined (scripts_of n))) (length (joined (scripts_of n)))
-    (all_pass is_built (joined (scripts_of n)) (all_joined is_built (scripts_of n) (scripts_pass is_built built n)))
 
 -- ---- no line waits
 

@@ -14,7 +14,7 @@ use Rattle.penglai_main.specs.declared.unread.Unread.{Unread}
 use Rattle.penglai_main.specs.declared.unread.Unread.TheVariants as unread
 use Rattle.penglai_main.specs.Ends.{Ends}
 use Rattle.penglai_main.specs.Play.{Gives, RunEnds, run_text}
-use Rattle.penglai_main.specs.Top.{CauseFits, Explains, IsOutput, IsRefusal, MayWrite, bad_setup_text, runnable_of}
+use Rattle.penglai_main.specs.Top.{CauseFits, Explains, IsOutput, IsRefusal, MayWrite, bad_setup_text}
 use Rattle.penglai_main.specs.Unread.{Declines, Obtains, Refuses}
 
 module _ (gives other : ChoiceName → Gives) (source sink : Ends) where
@@ -39,7 +39,7 @@ module _ (gives other : ChoiceName → Gives) (source sink : Ends) where
 
 module _ (gives : ChoiceName → Gives) (source sink : Ends) where
   -- a run of the setup that was read
-  pub explained : (setup : SetupParts) (status : Status) → Obtains runnable_of source (Ok setup) → RunEnds sha256 (gives setup.choice) setup printed_is.History sink status → Explains gives Solo source sink status
+  pub explained : (setup : SetupParts) (status : Status) → Obtains source (Ok setup) → RunEnds sha256 (gives setup.choice) setup printed_is.History sink status → Explains gives Solo source sink status
   explained setup status_is.Done read k =
       (run_text printed_is.History k.0 finished.Done, record { at_end = read.0; setup = setup; reads = read.1; world = k.0; run = k.1.0; text_is = refl }, k.1.1)
   explained setup status_is.Collision read k =
@@ -70,7 +70,7 @@ module _ (gives : ChoiceName → Gives) (source sink : Ends) where
   refused rule item cause status_is.Collision is fits k = absurd k
   refused rule item cause status_is.Stuck is fits k = absurd k
 
-  pub declined : (why : Unread) (status : Status) → Obtains runnable_of source (Err why) → Declines sink why status → Explains gives Solo source sink status
+  pub declined : (why : Unread) (status : Status) → Obtains source (Err why) → Declines sink why status → Explains gives Solo source sink status
   declined unread.Memory status read k = subst (Explains gives Solo source sink) (sym k.0) k.1
   declined unread.ReadFault status read k = subst (Explains gives Solo source sink) (sym k.0) (read, k.1)
-  declined (unread.Bad rule item cause) status read k = refused rule item cause status (record { reads = read.0; text_is = refl }) read.1 k
+  declined (unread.Bad rule item cause) status read k = refused rule item cause status (record { takes = tt; reads = read.0; text_is = refl }) read.1 k

@@ -1,7 +1,6 @@
 -- What the top call read and wrote, for each status that it ends with. The counts of faults and the bytes are those of
 -- the source and the sink that it was handed, where these tell them.
 use Rattle.std.specs.Prelude.{◌≡◌, ◌≤◌, ◌⊎◌, ⊤, ℕ, List, [], ◌∷◌, ◌++◌, codes, decimal, Option, Some, None, option_map, Ok, Err, if◌then◌else◌}
-use Rattle.std.specs.Option.{IsSomeAnd}
 use Rattle.std.specs.Str.{bytes_eq}
 use Rattle.pl_io.specs.Numbers.{dec_value}
 use Rattle.pl_history.specs.declared.setup.SetupParts.{SetupParts}
@@ -12,10 +11,8 @@ use Rattle.sha2.specs.Sha256.{sha256}
 use Rattle.toml.specs.declared.de.error.Error.{Error}
 use Rattle.world_machine.specs.declared.turned.Finished.{Finished}
 use Rattle.world_machine.specs.declared.turned.Finished.TheVariants as finished
-use Rattle.world_machine.specs.Unbuilt.{first_unbuilt_of}
 use Rattle.world_machine.specs.Worlds.{WorldData}
 use Rattle.world_setup.specs.Arguments.{within}
-use Rattle.world_setup.specs.Checked.{Checked, ◌>>=◌, none_at}
 use Rattle.world_setup.specs.Generating.{generated}
 use Rattle.world_setup.specs.SetupOf.{setup_of}
 use Rattle.penglai_main.specs.declared.top.Command.{Command}
@@ -33,27 +30,17 @@ command_of (word ∷ []) = if bytes_eq word (codes "solo") then Some Solo else i
 command_of (word ∷ number ∷ []) = if bytes_eq word (codes "generate") then option_map Generate (within 0 65535 (dec_value number)) else None
 command_of _ = None
 
--- rule 99, the last, fails at what isn't built
-abbrev pub runnable : SetupParts → Checked SetupParts
-runnable setup = do
-  _ ← none_at (first_unbuilt_of setup) 99
-  Ok setup
-
--- the setup of a text, where it is built
-abbrev pub runnable_of : List ℕ → Checked SetupParts
-runnable_of bytes = setup_of bytes >>= runnable
-
 -- the numbers of generated loads are those up to 65,535
 abbrev pub NumberFits : Command → Type 0
 NumberFits Solo = ⊤
 NumberFits Measure = ⊤
 NumberFits (Generate n) = n ≤ 65535
 
--- how a command takes the setup from a text, where it reads one; what is only measured need not be built
-abbrev pub taken_of : Command → Option (List ℕ → Checked SetupParts)
-taken_of Solo = Some runnable_of
-taken_of Measure = Some setup_of
-taken_of (Generate n) = None
+-- the commands that take a setup from the source
+abbrev pub TakesSetup : Command → Type 0
+TakesSetup Solo = ⊤
+TakesSetup Measure = ⊤
+TakesSetup (Generate n) = ⊥
 
 -- the source, before and after a command that reads no setup, is the same
 abbrev pub Untouched : {A : Type 0} → Command → A → A → Type 0
@@ -77,7 +64,7 @@ no_choice name slots position = ⊥
 pub record IsRun (gives : ChoiceName → Gives) (end : Finished) (source : Ends) (text : List ℕ) : Type 0 where
   pub at_end : ReadsToEnd source
   pub setup : SetupParts
-  pub reads : Reads runnable_of source (Ok setup)
+  pub reads : Reads setup_of source (Ok setup)
   pub world : WorldData
   pub run : IsRunOf sha256 (gives setup.choice) setup end world
   pub text_is : text ≡ run_text printed_is.History world end
@@ -106,7 +93,8 @@ IsOutput gives (Generate n) end source text = ⊥
 
 -- a refused setup, with the first rule that fails and its item
 pub record IsRefusal (command : Command) (source : Ends) (rule item : ℕ) (text : List ℕ) : Type 0 where
-  pub reads : IsSomeAnd (taken_of command) (λ taken. Reads taken source (Err (rule, item)))
+  pub takes : TakesSetup command
+  pub reads : Reads setup_of source (Err (rule, item))
   pub text_is : text ≡ bad_setup_text rule item
 
 -- the parser's cause comes with rule 2 alone, of a text that isn't TOML

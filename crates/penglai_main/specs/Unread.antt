@@ -1,8 +1,8 @@
 -- What the steps of the top call say: a setup that is read, and what is written where none is.
-use Rattle.std.specs.Prelude.{◌≡◌, ℕ, List, Option, Result, Ok, Err, ⊤}
+use Rattle.std.specs.Prelude.{◌≡◌, ℕ, Option, Result, Ok, Err, ⊤}
 use Rattle.toml.specs.declared.de.error.Error.{Error}
 use Rattle.pl_history.specs.declared.setup.SetupParts.{SetupParts}
-use Rattle.world_setup.specs.Checked.{Checked}
+use Rattle.world_setup.specs.SetupOf.{setup_of}
 use Rattle.penglai_main.specs.declared.status.Status.{Status}
 use Rattle.penglai_main.specs.declared.status.Status.TheVariants as status_is
 use Rattle.penglai_main.specs.declared.unread.Unread.{Unread}
@@ -10,12 +10,12 @@ use Rattle.penglai_main.specs.declared.unread.Unread.TheVariants as unread
 use Rattle.penglai_main.specs.Ends.{Ends, Reads, ReadsToEnd, Writes, WritesPrefix, WritesNothing, Failed, Later}
 use Rattle.penglai_main.specs.Top.{CauseFits, bad_setup_text}
 
--- how the answer of a reader follows from what was left to read
-abbrev pub Obtains : (List ℕ → Checked SetupParts) → Ends → Result SetupParts Unread → Type 0
-Obtains setup_in source (Ok setup) = ReadsToEnd source × Reads setup_in source (Ok setup)
-Obtains setup_in source (Err unread.Memory) = ⊤
-Obtains setup_in source (Err unread.ReadFault) = Failed source
-Obtains setup_in source (Err (unread.Bad rule item cause)) = Reads setup_in source (Err (rule, item)) × CauseFits rule item cause
+-- how the answer follows from what was left to read
+abbrev pub Obtains : Ends → Result SetupParts Unread → Type 0
+Obtains source (Ok setup) = ReadsToEnd source × Reads setup_of source (Ok setup)
+Obtains source (Err unread.Memory) = ⊤
+Obtains source (Err unread.ReadFault) = Failed source
+Obtains source (Err (unread.Bad rule item cause)) = Reads setup_of source (Err (rule, item)) × CauseFits rule item cause
 
 -- the line of a refused setup was written, and the parser's cause is handed on; or a front of the line, where a write failed
 abbrev pub Refuses : Ends → ℕ → ℕ → Option Error → Status → Type 0

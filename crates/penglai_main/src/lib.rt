@@ -2,14 +2,12 @@
 #![tactic(auto)]
 
 mod measure;
-mod sentences;
 mod solo;
 mod status;
 mod top;
 mod unread;
 
-pub use sentences::rule_text;
 pub use solo::{play, solo_with};
 pub use status::Status;
 pub use top::quick;
-pub use world_setup::RuleText;
+pub use world_setup::{RuleText, rule_text};

@@ -10,7 +10,6 @@ ghost use Rattle.penglai_main.specs.Top.{status_of};
 ghost use Rattle.world_machine.specs.Reached.{opening_world};
 ghost use Rattle.world_machine.specs.Runs.{Plays, over_of};
 ghost use Rattle.world_machine.specs.Steps.{Ran};
-ghost use Rattle.world_machine.specs.Unbuilt.{first_unbuilt_of};
 
 use crate::status::Status;
 use mem_slots::{Choice, SlotUse};
@@ -123,7 +122,7 @@ fn play_and_print<D: Digester, K: Sink, F: Fn(&[SlotUse]) -> usize>(
     }
 }
 
-// A run of a setup, each of whose lines is built, and what is printed of it. Where no world can be made, nothing is written.
+// A run of a setup, and what is printed of it. Where no world can be made, nothing is written.
 pub(crate) fn run_and_print<D: Digester, K: Sink, F: Fn(&[SlotUse]) -> usize + Drop>(
     alloc: Global,
     digester: D,
@@ -132,7 +131,6 @@ pub(crate) fn run_and_print<D: Digester, K: Sink, F: Fn(&[SlotUse]) -> usize + D
     sink: &mut K,
     choice: Choice<F>,
 ) -> Status
-    requires built { first_unbuilt_of setup ≡ None }
     requires choice { NamesPosition F.Fn choice }
     ensures ends { RunEnds D.digest_of (FnReturnsAt F.Fn choice) setup printed (ends K.written K.faults sink.old sink.new) result }
     ensures later { Later (ends K.written K.faults sink.old sink.new) }
@@ -159,8 +157,8 @@ pub fn play<D: Digester, K: Sink, F: Fn(&[SlotUse]) -> usize>(
     play_and_print(world, Printed::History, sink)
 }
 
-/// A run of a setup, each of whose lines is built, with this digest function and this rule that names the slot to evict: its history and
-/// report are written. It answers what `play` answers, or NoMemory where no world can be made, with nothing written.
+/// A run of a setup with this digest function and this rule that names the slot to evict: its history and report are written. It answers
+/// what `play` answers, or NoMemory where no world can be made, with nothing written.
 pub fn solo_with<D: Digester, K: Sink, F: Fn(&[SlotUse]) -> usize + Drop>(
     alloc: Global,
     digester: D,
@@ -168,7 +166,6 @@ pub fn solo_with<D: Digester, K: Sink, F: Fn(&[SlotUse]) -> usize + Drop>(
     sink: &mut K,
     choice: Choice<F>,
 ) -> Status
-    requires built { first_unbuilt_of setup ≡ None }
     requires choice { NamesPosition F.Fn choice }
     ensures ends { RunEnds D.digest_of (FnReturnsAt F.Fn choice) setup printed_is.History (ends K.written K.faults sink.old sink.new) result }
     ensures later { Later (ends K.written K.faults sink.old sink.new) }

@@ -15,7 +15,7 @@ ghost use Rattle.world_setup.specs.Generating.{generated};
 use crate::measure::put_measurements;
 use crate::solo::{Printed, run_and_print, solo_with};
 use crate::status::Status;
-use crate::unread::{decline, runnable_from, setup_from};
+use crate::unread::{decline, setup_from};
 use mem_slots::{Choice, SlotUse};
 use pl_base::Failed;
 use pl_digest::Sha;
@@ -73,7 +73,7 @@ fn solo<S: Source, K: Sink, F: Fn(&[SlotUse]) -> usize + Drop, O: Fn(&[SlotUse])
     ensures source_later { Later (ends S.left S.faults source.old source.new) }
     ensures sink_later { Later (ends K.written K.faults sink.old sink.new) }
 {
-    let setup = match runnable_from(alloc, source) {
+    let setup = match setup_from(alloc, source) {
         Ok(setup) => setup,
         Err(unread) => return decline(sink, unread),
     };

@@ -1,11 +1,9 @@
 // The setup that a source holds, or why there is none.
-ghost use Rattle.std.specs.Prelude.{◌≡◌, None, IfOk};
+ghost use Rattle.std.specs.Prelude.{◌≡◌, None};
 ghost use Rattle.pl_io.specs.Puts.{Puts};
 ghost use Rattle.penglai_main.specs.Ends.{Later, ends};
-ghost use Rattle.penglai_main.specs.Top.{bad_setup_text, runnable_of};
+ghost use Rattle.penglai_main.specs.Top.{bad_setup_text};
 ghost use Rattle.penglai_main.specs.Unread.{Declines, Obtains, Refuses};
-ghost use Rattle.world_machine.specs.Unbuilt.{first_unbuilt_of};
-ghost use Rattle.world_setup.specs.SetupOf.{setup_of};
 
 use crate::status::Status;
 use pl_base::Failed;
@@ -13,7 +11,6 @@ use pl_history::Setup;
 use pl_io::{Piece, ReadAll, Sink, Source, put_pieces, read_all};
 use std::alloc::Global;
 use toml::de::Error;
-use world_core::first_unbuilt;
 use world_setup::{MOST_TEXT, SetupFault, read_setup};
 
 /// Why no setup was read.
@@ -41,7 +38,7 @@ fn bad(rule: u8, item: u32) -> Unread
 
 /// The setup that the source holds.
 pub(crate) fn setup_from<S: Source>(alloc: Global, source: &mut S) -> Result<Setup, Unread>
-    ensures obtains { Obtains setup_of (ends S.left S.faults source.old source.new) result }
+    ensures obtains { Obtains (ends S.left S.faults source.old source.new) result }
     ensures later { Later (ends S.left S.faults source.old source.new) }
 {
     let bytes = match read_all(alloc, source, MOST_TEXT) {
@@ -59,21 +56,6 @@ pub(crate) fn setup_from<S: Source>(alloc: Global, source: &mut S) -> Result<Set
             item: 0,
             cause: Some(cause),
         }),
-    }
-}
-
-/// The setup that the source holds, where it is built.
-pub(crate) fn runnable_from<S: Source>(alloc: Global, source: &mut S) -> Result<Setup, Unread>
-    ensures obtains { Obtains runnable_of (ends S.left S.faults source.old source.new) result }
-    ensures built { IfOk result (λ setup. first_unbuilt_of setup ≡ None) }
-    ensures later { Later (ends S.left S.faults source.old source.new) }
-{
-    match setup_from(alloc, source) {
-        Ok(setup) => match first_unbuilt(&setup) {
-            Some(item) => Err(bad(99, item)),
-            None => Ok(setup),
-        },
-        Err(cause) => Err(cause),
     }
 }
 

@@ -7,7 +7,6 @@ use pl_digest::Sha;
 use pl_io::MemSink;
 use std::alloc::Global;
 use std::test::Fail;
-use world_core::first_unbuilt;
 use world_setup::read_setup;
 
 // Pages in three zones and tables in a fourth, with slots for two.
@@ -24,9 +23,6 @@ fn answers_the_same<F: Fn(&[SlotUse]) -> usize + Drop>(
     requires { NamesPosition F.Fn rule }
 {
     let setup = read_setup(alloc, SETUP.as_bytes())?;
-    if first_unbuilt(&setup).is_some() {
-        return Err(Fail::from("a line of the setup isn't built"));
-    }
     let Ok(mut sink) = MemSink::new(alloc, 65536, Vec::new(alloc)) else {
         return Err(Fail::from("no memory for the sink"));
     };

@@ -68,7 +68,8 @@ module _ (setup : SetupParts) (bytes : List ℕ) (Holds : Monitor → Type 0)
   progressed_holds s actor (answer_is.Wrote changed at from len) k = of_progress s actor _ k
   progressed_holds s actor (answer_is.Kept at from len) k = of_progress s actor _ k
 
-  line_holds : (s : Monitor) (before : List Entry) (entry : Entry) (line : ActorLine) → Holds s
+  -- after one entry
+  pub line_holds : (s : Monitor) (before : List Entry) (entry : Entry) (line : ActorLine) → Holds s
       → AllowedLine setup bytes s before line (s.progress entry.actor).begun entry.answer → Holds (after_line s entry.actor (named_part bytes entry.answer) entry.answer line)
   line_holds s before entry (of_hart line) k allowed =
       progressed_holds (change_by (changes s entry.actor line (s.progress entry.actor).begun) entry.answer) entry.actor entry.answer

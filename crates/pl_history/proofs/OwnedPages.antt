@@ -41,12 +41,12 @@ module _ (setup : SetupParts) where
   not_true false is = cc
 
   -- pages that may be taken are the host's, and it maps none of them
-  record MayTake (s : Monitor) (pages : List ℕ) : Type 0 where
-    hosts : All (λ page. is_host (s.owner page) ≡ true) pages
-    unmapped : All (λ page. maps_of s page ≡ 0) pages
-    unbarred : All (λ page. page_allowed (pmp_of setup) page ≡ true) pages
+  pub record MayTake (s : Monitor) (pages : List ℕ) : Type 0 where
+    pub hosts : All (λ page. is_host (s.owner page) ≡ true) pages
+    pub unmapped : All (λ page. maps_of s page ≡ 0) pages
+    pub unbarred : All (λ page. page_allowed (pmp_of setup) page ≡ true) pages
 
-  may_take : (s : Monitor) (pages : List ℕ) (later : List (Option No)) → first_refusal (page_refusals setup s pages ++ later) ≡ None → MayTake s pages
+  pub may_take : (s : Monitor) (pages : List ℕ) (later : List (Option No)) → first_refusal (page_refusals setup s pages ++ later) ≡ None → MayTake s pages
   may_take s pages later is =
       let first = first_none (option_map refused.NotYours (first_not_host s pages)) (option_map refused.StillMapped (first_mapped s pages) ∷ option_map refused.Barred (first_barred setup pages) ∷ later) is in
       let second = first_none (option_map refused.StillMapped (first_mapped s pages)) (option_map refused.Barred (first_barred setup pages) ∷ later) first.1 in
@@ -228,7 +228,7 @@ module _ (setup : SetupParts) where
         let third = first_none (option_map refused.Twice (first_twice pages)) (page_refusals setup s pages ++ last) second.1 in
         may_take s pages last third.1
 
-    grant_takes : (e page : ℕ) → grant_refusal setup s e page ≡ None → MayTake s (page ∷ [])
+    pub grant_takes : (e page : ℕ) → grant_refusal setup s e page ≡ None → MayTake s (page ∷ [])
     grant_takes e page is =
         let last : List (Option No) = refuse (nat_lt most_spares (length (s.number e).spares + 1)) refused.TooMany ∷ [] in
         let first = first_none (destroy_refusal (s.number e).state) (page_refusals setup s (page ∷ []) ++ last) is in
@@ -255,12 +255,12 @@ module _ (setup : SetupParts) where
 
   -- ---- each line
 
-  only_ok : (refusal : Option No) (gives : Option Answer) (begun : Bool) → Rattle.pl_history.specs.Answering.AtOnce refusal gives begun answer_is.Ok → refusal ≡ None
+  pub only_ok : (refusal : Option No) (gives : Option Answer) (begun : Bool) → Rattle.pl_history.specs.Answering.AtOnce refusal gives begun answer_is.Ok → refusal ≡ None
   only_ok refusal gives true allowed = absurd allowed
   only_ok refusal gives false allowed = allowed.0
 
   -- what an answer to a hart's line changes leaves the pages standing
-  line_stands : (s : Monitor) (hart : ℕ) (line : Line) (begun : Bool) (now : Answer) → PagesStand setup s → AllowedAnswer setup s line begun now → PagesStand setup (change_by (changes s hart line begun) now)
+  pub line_stands : (s : Monitor) (hart : ℕ) (line : Line) (begun : Bool) (now : Answer) → PagesStand setup s → AllowedAnswer setup s line begun now → PagesStand setup (change_by (changes s hart line begun) now)
   line_stands s hart (line_is.Load va) begun now k allowed = unchanged_holds (PagesStand setup) s now k
   line_stands s hart (line_is.After actor count) begun now k allowed = unchanged_holds (PagesStand setup) s now k
   line_stands s hart (line_is.Store va word) begun answer_is.Ok k allowed = store_stands s k va word (mapping_used (mapping_at s.space (vpn_of va).0) (removed_at s.removals (vpn_of va).0))
@@ -294,16 +294,16 @@ module _ (setup : SetupParts) where
   line_stands s hart (line_is.Drop e) begun answer_is.Ok k allowed = given_stands s k e.0 _
   line_stands s hart line begun now k allowed = k
 
-  written_stands : (s : Monitor) (now : Placed) (changed : Bool) → PagesStand setup s → PagesStand setup (written s now changed)
+  pub written_stands : (s : Monitor) (now : Placed) (changed : Bool) → PagesStand setup s → PagesStand setup (written s now changed)
   written_stands s now true k = same_pages s (written s now true) refl refl refl (λ e. refl) k
   written_stands s now false k = same_pages s (written s now false) refl refl refl (λ e. refl) k
 
-  progress_stands : (s : Monitor) (actor : ℕ) (now : Progress) → PagesStand setup s → PagesStand setup (with_progress s actor now)
+  pub progress_stands : (s : Monitor) (actor : ℕ) (now : Progress) → PagesStand setup s → PagesStand setup (with_progress s actor now)
   progress_stands s actor now k = same_pages s (with_progress s actor now) refl refl refl (λ e. refl) k
 
   -- ---- whole histories
 
-  opening_stands : PagesStand setup (opening setup)
+  pub opening_stands : PagesStand setup (opening setup)
   unfolding opening
   opening_stands = record { mapped = All-nil _; removed = All-nil _; taken = λ e. All-nil _; allowed = λ e. All-nil _ }
 
@@ -314,10 +314,10 @@ module _ (setup : SetupParts) where
   one_number : (o : Option Owner) (e f : ℕ) → o ≡ Some (number e) → o ≡ Some (number f) → e ≡ f
   one_number o e f here there = let same : Some (number e) ≡ Some (number f) = sym here ∙ there in cc
 
-  not_both : (o : Option Owner) (e : ℕ) → is_host o ≡ true → o ≡ Some (number e) → ⊥
+  pub not_both : (o : Option Owner) (e : ℕ) → is_host o ≡ true → o ≡ Some (number e) → ⊥
   not_both o e hosts own = false≢true (sym (ap is_host own) ∙ hosts)
 
-  standing_apart : (s : Monitor) → PagesStand setup s → PagesApart s
+  pub standing_apart : (s : Monitor) → PagesStand setup s → PagesApart s
   standing_apart s k = record {
     numbers = λ e f page here there. one_number (s.owner page) e f
         (All-contains (λ p. s.owner p ≡ Some (number e)) (pages_taken (s.number e)) page (k.taken e) here)

@@ -19,7 +19,7 @@ use Rattle.pl_history.proofs.StatesStay.{EachStays, attack_stays, line_stays}
 -- ---- what an answer moves on
 
 -- an actor is moved on by an answer, and no other
-abbrev moved_one : (ℕ → Progress) → ℕ → Answer → ℕ → Progress
+abbrev pub moved_one : (ℕ → Progress) → ℕ → Answer → ℕ → Progress
 moved_one progress actor now other = if other == actor then moved (progress actor) now else progress other
 
 -- after an answer, from a state that is as far as the one before
@@ -33,7 +33,7 @@ answer_moves s all actor (answer_is.No cause) keeps = ap (λ (p : ℕ → Progre
 answer_moves s all actor (answer_is.Wrote changed pa from len) keeps = ap (λ (p : ℕ → Progress). moved_one p actor (answer_is.Wrote changed pa from len)) (keeps.wrote changed pa).progress
 answer_moves s all actor (answer_is.Kept pa from len) keeps = ap (λ (p : ℕ → Progress). moved_one p actor (answer_is.Kept pa from len)) keeps.kept.progress
 
-line_moves : (s : Monitor) (actor : ℕ) (part : List ℕ) (now : Answer) (line : ActorLine) → (after_line s actor part now line).progress ≡ moved_one s.progress actor now
+pub line_moves : (s : Monitor) (actor : ℕ) (part : List ℕ) (now : Answer) (line : ActorLine) → (after_line s actor part now line).progress ≡ moved_one s.progress actor now
 line_moves s actor part now (of_hart line) = answer_moves s (changes s actor line (s.progress actor).begun) actor now (line_stays s actor line (s.progress actor).begun)
 line_moves s actor part now (of_attacker line) = answer_moves s (attack_changes s part line) actor now (attack_stays s part line)
 

@@ -1,5 +1,6 @@
 pub mod Rules
 pub mod OwnedPages
+pub mod ShadowPages
 pub mod Protection
 pub mod Monitor
 pub mod NumberSpace

@@ -1,16 +1,12 @@
 -- The address space of an enclave number.
-use Rattle.std.specs.Prelude.{ℕ, ◌+◌, ◌==◌, if◌then◌else◌, List, [], ◌∷◌, Option, Some, None, option_map, slice_index}
+use Rattle.std.specs.Prelude.{ℕ, ◌+◌, if◌then◌else◌, List, [], ◌∷◌, Option, Some, None, slice_index}
 use Rattle.std.specs.Option.{option_map_or}
 use Rattle.pl_base.specs.declared.perms.Perms.{Perms}
+use Rattle.rv_alone.specs.Alone.{place_in}
 use Rattle.rv_alone.specs.Flat.{Image, Page}
 use Rattle.pl_history.specs.declared.setup.SetupParts.{SetupParts}
 use Rattle.pl_history.specs.Monitor.{Number, image_at}
 use Rattle.mon_tables.specs.Space.{first_vpn, Mapping, without_write}
-
--- the first place of a page of the image in a list
-abbrev pub place_in : ℕ → List ℕ → Option ℕ
-place_in at [] = None
-place_in at (first ∷ later) = if first == at then Some 0 else option_map (λ place. place + 1) (place_in at later)
 
 -- the pages of an image have virtual page numbers one after another
 abbrev pub image_mapping : ℕ → ℕ → Perms → Mapping

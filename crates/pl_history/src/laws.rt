@@ -2,6 +2,7 @@
 ghost use Rattle.pl_history.specs.HostMappings.{LegalMappings};
 ghost use Rattle.pl_history.specs.OwnedPages.{LegalPages};
 ghost use Rattle.pl_history.specs.Protection.{GuardedAreRead};
+ghost use Rattle.pl_history.specs.ShadowPages.{LegalShadows};
 ghost use Rattle.pl_history.specs.Laws.{OneMoreIsLegal, OneMoreGives, MoreBytesLeaveLegal, MoreBytesLeaveState, AnswersMoveOneActor, LinesBeginOnce, UnattackedIsFaultless};
 
 /// A history grows by one entry at a time: it stays legal where that entry is allowed, and the state that it gives is the one after it.
@@ -37,6 +38,14 @@ pub fn faults_need_an_attack()
 #[tactic(auto, using(crate::proofs::OwnedPages::legal_pages))]
 pub fn pages_have_one_owner()
     ensures { LegalPages }
+{}
+
+/// In a legal history a number is what its state says: a free one has nothing; one that wasn't forked has as many pages as its image; one
+/// that was forked has none of its own, and its shadow is sealed, wasn't forked itself and has the same image. So a shadow stays as it is, and
+/// isn't given back, while a number that was forked from it is there. No page stands in a number twice, and it has at most 256 spares.
+#[tactic(auto, using(crate::proofs::ShadowPages::legal_shadows))]
+pub fn shadows_keep_their_forks()
+    ensures { LegalShadows }
 {}
 
 /// In a legal history the host's mappings, and those that it is removing, stand at addresses of their own, which its tables have words for:

@@ -16,7 +16,7 @@ pub use history::History;
 pub use laws::{
     added_bytes_leave_histories, answers_move_one_actor, faults_need_an_attack,
     guarded_pages_are_read, histories_grow_by_entries, mappings_have_their_words,
-    pages_have_one_owner,
+    pages_have_one_owner, shadows_keep_their_forks,
 };
 pub use line::{AttackLine, Line};
 pub use pages::{all_pages, guarded_pages};

@@ -65,7 +65,8 @@ sent_later image sent later (suc n) a e = then_later (alone image sent n) (alone
 
 -- ---- the pages written so far
 
-came : (image : Image) (sent : List ℕ) (n : ℕ) (a : Flat) → alone image sent (suc n) ≡ Some a → (b : Flat) × (alone image sent n ≡ Some b)
+-- a run that comes so far came to each state before
+pub came : (image : Image) (sent : List ℕ) (n : ℕ) (a : Flat) → alone image sent (suc n) ≡ Some a → (b : Flat) × (alone image sent n ≡ Some b)
 unfolding alone
 came image sent n a e = from (alone image sent n) refl e
   where

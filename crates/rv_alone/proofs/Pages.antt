@@ -21,7 +21,8 @@ use Rattle.rv_alone.specs.Alone.{Outcome, next, trap, wait, full, next_of, conte
 use Rattle.rv_alone.proofs.Later.{sent_later}
 use Rattle.rv_alone.specs.Laws.{PermissionsStay, UnwrittenStay, WrittenOnce, WrittenWritable}
 
-abbrev perms_of : List Page → List Perms
+-- the permissions of all pages
+abbrev pub perms_of : List Page → List Perms
 perms_of pages = map (λ (page : Page). page.perms) pages
 
 -- the pages after a step that stores to no page, or to this one
@@ -158,14 +159,15 @@ written_more : (image : Image) (sent : List ℕ) (n : ℕ) → written_pages ima
 unfolding written_pages
 written_more image sent n = refl
 
-written_at : (image : Image) (sent : List ℕ) (n : ℕ) (a : Flat) → alone image sent n ≡ Some a → written_pages image sent (suc n) ≡ with_page (written_pages image sent n) (page_written a.status a)
-written_at image sent n a e = written_more image sent n ∙ ap (λ o. with_page (written_pages image sent n) (option_and_then (λ (x : Flat). page_written x.status x) o)) e
+-- the page that the next instruction stores to joins those before
+pub later_page : (image : Image) (sent : List ℕ) (n : ℕ) (a : Flat) → alone image sent n ≡ Some a → written_pages image sent (suc n) ≡ with_page (written_pages image sent n) (page_written a.status a)
+later_page image sent n a e = written_more image sent n ∙ ap (λ o. with_page (written_pages image sent n) (option_and_then (λ (x : Flat). page_written x.status x) o)) e
 
 pub unwritten_stay : UnwrittenStay
 unwritten_stay image sent n b p e =
     along image sent (λ m pages. among p (written_pages image sent m) ≡ false → slice_get pages p ≡ slice_get image.pages p) (λ h. refl)
     (λ m a c is so_far step h.
-    let parts = not_among (written_pages image sent m) (page_written a.status a) p (sym (ap (among p) (written_at image sent m a is)) ∙ h) in
+    let parts = not_among (written_pages image sent m) (page_written a.status a) p (sym (ap (among p) (later_page image sent m a is)) ∙ h) in
     unwritten_step a.pages c.pages (page_written a.status a) p step parts.1 ∙ so_far parts.0)
     n b e
 
@@ -205,10 +207,11 @@ written_once image sent (suc n) =
 
 -- ---- pages that may be written
 
-abbrev Writable : List Page → ℕ → Type 0
+-- a page of these that may be written
+abbrev pub Writable : List Page → ℕ → Type 0
 Writable pages p = IsSomeAnd (slice_get pages p) (λ (page : Page). IsTrue (grants page.perms kind.Store))
 
-writable_alike : (xs ys : List Page) (p : ℕ) → perms_of xs ≡ perms_of ys → Writable xs p → Writable ys p
+pub writable_alike : (xs ys : List Page) (p : ℕ) → perms_of xs ≡ perms_of ys → Writable xs p → Writable ys p
 writable_alike [] ys p e w = absurd w
 writable_alike (x ∷ xs) [] p e w = cc
 writable_alike (x ∷ xs) (y ∷ ys) zero e w = let head : x.perms ≡ y.perms = cc in ap (λ perms. grants perms kind.Store) (sym head) ∙ w

@@ -102,6 +102,11 @@ abbrev pub with_page : List ℕ → Option ℕ → List ℕ
 with_page pages None = pages
 with_page pages (Some page) = if list_any (λ p. p == page) pages then pages else pages ++ page ∷ []
 
+-- the first place of a page of the image in a list
+abbrev pub place_in : ℕ → List ℕ → Option ℕ
+place_in at [] = None
+place_in at (first ∷ later) = if first == at then Some 0 else option_map (λ place. place + 1) (place_in at later)
+
 -- the pages that the first so many instructions store to, in order of the first store
 unfoldable pub written_pages : Image → List ℕ → ℕ → List ℕ
 written_pages image sent zero = []

@@ -1,3 +1,4 @@
+pub mod BreakLemmas
 pub mod ConditionLemmas
 pub mod EventLemmas
 pub mod OpeningLemmas
@@ -7,4 +8,3 @@ pub mod ReportLemmas
 pub mod RoundLemmas
 pub mod TranslationConditions
 pub mod TurnLemmas
-pub mod UnbuiltLemmas

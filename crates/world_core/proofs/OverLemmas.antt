@@ -17,9 +17,10 @@ use Rattle.world_core.proofs.TurnLemmas.{attack_turn-line, due_turn-hart}
 use Rattle.world_machine.specs.declared.turned.Turned.TheVariants as turned
 use Rattle.world_machine.specs.declared.turned.Wait.TheVariants as wait
 use Rattle.world_machine.specs.declared.under.Under.{Under}
-use Rattle.world_machine.specs.declared.under.Under.TheVariants.{Idle, Seeking, Removing, Destroying, Putting, Running}
+use Rattle.world_machine.specs.declared.under.Under.TheVariants.{Idle, Seeking, Removing, Destroying, Putting, Running, Breaking}
 use Rattle.world_machine.specs.GivingBack.{ends_destroy}
 use Rattle.world_machine.specs.HostMapping.{ends_unmap, lacked_by}
+use Rattle.world_machine.specs.Running.{restarts}
 use Rattle.world_machine.specs.Runs.{acknowledgements, hart_turns, is_still, nobody_moves}
 use Rattle.world_machine.specs.Steps.{Turn, actor_turn, moves, rests, turned_by, waiting_turn, waits}
 use Rattle.world_machine.specs.Worlds.{Event, WorldData, answered_at, attacker_line, hart_line, under_at}
@@ -52,66 +53,98 @@ module _ (d : List ℕ → List ℕ) (w : WorldData) where
   due_stills hart pages (due_is.Load va) Destroying = refl
   due_stills hart pages (due_is.Load va) (Putting done) = refl
   due_stills hart pages (due_is.Load va) (Running micro count) = refl
+  due_stills hart pages (due_is.Load va) (Breaking count) = refl
   due_stills hart pages (due_is.Store va word) Idle = refl
   due_stills hart pages (due_is.Store va word) (Seeking walk) = refl
   due_stills hart pages (due_is.Store va word) (Removing page) = refl
   due_stills hart pages (due_is.Store va word) Destroying = refl
   due_stills hart pages (due_is.Store va word) (Putting done) = refl
   due_stills hart pages (due_is.Store va word) (Running micro count) = refl
+  due_stills hart pages (due_is.Store va word) (Breaking count) = refl
   due_stills hart pages (due_is.Map va page perms) Idle = refl
   due_stills hart pages (due_is.Map va page perms) (Seeking walk) = refl
   due_stills hart pages (due_is.Map va page perms) (Removing now) = refl
   due_stills hart pages (due_is.Map va page perms) Destroying = refl
   due_stills hart pages (due_is.Map va page perms) (Putting done) = refl
   due_stills hart pages (due_is.Map va page perms) (Running micro count) = refl
+  due_stills hart pages (due_is.Map va page perms) (Breaking count) = refl
   due_stills hart pages (due_is.Unmap va) Idle = refl
   due_stills hart pages (due_is.Unmap va) (Seeking walk) = refl
   due_stills hart pages (due_is.Unmap va) (Removing page) = waiting_moves (ends_unmap w hart page) (lacked_by w hart)
   due_stills hart pages (due_is.Unmap va) Destroying = refl
   due_stills hart pages (due_is.Unmap va) (Putting done) = refl
   due_stills hart pages (due_is.Unmap va) (Running micro count) = refl
-  due_stills hart pages (due_is.Create e image) Idle = refl
-  due_stills hart pages (due_is.Create e image) (Seeking walk) = refl
-  due_stills hart pages (due_is.Create e image) (Removing page) = refl
-  due_stills hart pages (due_is.Create e image) Destroying = refl
-  due_stills hart pages (due_is.Create e image) (Putting done) = refl
-  due_stills hart pages (due_is.Create e image) (Running micro count) = refl
+  due_stills hart pages (due_is.Unmap va) (Breaking count) = refl
+  due_stills hart pages (due_is.Create e image shadow) Idle = refl
+  due_stills hart pages (due_is.Create e image shadow) (Seeking walk) = refl
+  due_stills hart pages (due_is.Create e image shadow) (Removing page) = refl
+  due_stills hart pages (due_is.Create e image shadow) Destroying = refl
+  due_stills hart pages (due_is.Create e image shadow) (Putting done) = refl
+  due_stills hart pages (due_is.Create e image shadow) (Running micro count) = refl
+  due_stills hart pages (due_is.Create e image shadow) (Breaking count) = refl
+  due_stills hart pages (due_is.Fork s e) Idle = refl
+  due_stills hart pages (due_is.Fork s e) (Seeking walk) = refl
+  due_stills hart pages (due_is.Fork s e) (Removing page) = refl
+  due_stills hart pages (due_is.Fork s e) Destroying = refl
+  due_stills hart pages (due_is.Fork s e) (Putting done) = refl
+  due_stills hart pages (due_is.Fork s e) (Running micro count) = refl
+  due_stills hart pages (due_is.Fork s e) (Breaking count) = refl
+  due_stills hart pages (due_is.Grant e granted) Idle = refl
+  due_stills hart pages (due_is.Grant e granted) (Seeking walk) = refl
+  due_stills hart pages (due_is.Grant e granted) (Removing page) = refl
+  due_stills hart pages (due_is.Grant e granted) Destroying = refl
+  due_stills hart pages (due_is.Grant e granted) (Putting done) = refl
+  due_stills hart pages (due_is.Grant e granted) (Running micro count) = refl
+  due_stills hart pages (due_is.Grant e granted) (Breaking count) = refl
+  due_stills hart pages (due_is.Drop s) Idle = refl
+  due_stills hart pages (due_is.Drop s) (Seeking walk) = refl
+  due_stills hart pages (due_is.Drop s) (Removing page) = refl
+  due_stills hart pages (due_is.Drop s) Destroying = refl
+  due_stills hart pages (due_is.Drop s) (Putting done) = refl
+  due_stills hart pages (due_is.Drop s) (Running micro count) = refl
+  due_stills hart pages (due_is.Drop s) (Breaking count) = refl
   due_stills hart pages (due_is.Run e budget first) Idle = refl
   due_stills hart pages (due_is.Run e budget first) (Seeking walk) = refl
   due_stills hart pages (due_is.Run e budget first) (Removing page) = refl
   due_stills hart pages (due_is.Run e budget first) Destroying = refl
   due_stills hart pages (due_is.Run e budget first) (Putting done) = refl
   due_stills hart pages (due_is.Run e budget first) (Running micro count) = refl
+  due_stills hart pages (due_is.Run e budget first) (Breaking count) = waiting_moves (restarts w hart count) (lacked_by w hart)
   due_stills hart pages (due_is.Send e word) Idle = refl
   due_stills hart pages (due_is.Send e word) (Seeking walk) = refl
   due_stills hart pages (due_is.Send e word) (Removing page) = refl
   due_stills hart pages (due_is.Send e word) Destroying = refl
   due_stills hart pages (due_is.Send e word) (Putting done) = refl
   due_stills hart pages (due_is.Send e word) (Running micro count) = refl
+  due_stills hart pages (due_is.Send e word) (Breaking count) = refl
   due_stills hart pages (due_is.Take e) Idle = refl
   due_stills hart pages (due_is.Take e) (Seeking walk) = refl
   due_stills hart pages (due_is.Take e) (Removing page) = refl
   due_stills hart pages (due_is.Take e) Destroying = refl
   due_stills hart pages (due_is.Take e) (Putting done) = refl
   due_stills hart pages (due_is.Take e) (Running micro count) = refl
+  due_stills hart pages (due_is.Take e) (Breaking count) = refl
   due_stills hart pages (due_is.Destroy e) Idle = refl
   due_stills hart pages (due_is.Destroy e) (Seeking walk) = refl
   due_stills hart pages (due_is.Destroy e) (Removing page) = refl
   due_stills hart pages (due_is.Destroy e) Destroying = waiting_moves (ends_destroy w hart e) (lacked_by w hart)
   due_stills hart pages (due_is.Destroy e) (Putting done) = refl
   due_stills hart pages (due_is.Destroy e) (Running micro count) = refl
+  due_stills hart pages (due_is.Destroy e) (Breaking count) = refl
   due_stills hart pages (due_is.After actor lines) Idle = waiting_still w actor lines _
   due_stills hart pages (due_is.After actor lines) (Seeking walk) = refl
   due_stills hart pages (due_is.After actor lines) (Removing page) = refl
   due_stills hart pages (due_is.After actor lines) Destroying = refl
   due_stills hart pages (due_is.After actor lines) (Putting done) = refl
   due_stills hart pages (due_is.After actor lines) (Running micro count) = refl
+  due_stills hart pages (due_is.After actor lines) (Breaking count) = refl
   due_stills hart pages due_is.Nothing Idle = refl
   due_stills hart pages due_is.Nothing (Seeking walk) = refl
   due_stills hart pages due_is.Nothing (Removing page) = refl
   due_stills hart pages due_is.Nothing Destroying = refl
   due_stills hart pages due_is.Nothing (Putting done) = refl
   due_stills hart pages due_is.Nothing (Running micro count) = refl
+  due_stills hart pages due_is.Nothing (Breaking count) = refl
 
   pub hart_stills : (hart : ℕ) (due : Due) (under : Under) → due ≡ due_of (hart_line w hart) → under ≡ under_at w.under hart → due_still w due under ≡ hart_still d w hart
   hart_stills hart due under is so_far =

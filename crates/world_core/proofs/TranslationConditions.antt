@@ -31,16 +31,18 @@ use Rattle.pl_history.specs.Monitor.{maps_of}
 use Rattle.pl_history.proofs.HostMappings.{counts_one, legal_mappings}
 use Rattle.world_core.specs.Conditions.{CanAcknowledge, CanDestroy, CanEndUnmap, CanGo, CanMap, CanSeekData, CanSeekNext, CanUnmap}
 use Rattle.world_core.specs.Translating.{AsksInside, CanSeek, IsInside}
+use Rattle.world_machine.specs.Accesses.{HasAcknowledged}
 use Rattle.world_machine.specs.FencesStand.{FenceStands, IsOfHost, removals_by}
 use Rattle.world_machine.specs.HostAccessing.{WordAccess, host_request, kind_of}
-use Rattle.world_machine.specs.LinesUnderWay.{access_of}
+use Rattle.world_machine.specs.LinesUnderWay.{access_of, number_under_way}
 use Rattle.world_machine.specs.Running.{RunNow, run_request}
 use Rattle.world_machine.specs.Standing.{Kept, state_of}
 use Rattle.world_machine.specs.Translating.{host_view, number_view, offset_at, page_at, sought_in}
 use Rattle.world_machine.specs.TranslationsAgree.{IsFresh, WalkStands, WalkingStands, walking_of}
-use Rattle.world_machine.specs.Worlds.{WorldData}
+use Rattle.world_machine.specs.Worlds.{WorldData, hart_line, under_at}
 use Rattle.world_machine.proofs.HostOwners.{host_counted, is_host-host, removed_less}
 use Rattle.world_machine.proofs.HostSpaces.{few_pages, host_leads, removed_host}
+use Rattle.world_machine.proofs.Leaving.{runs_acknowledged}
 use Rattle.world_machine.proofs.SetupFacts.{guarded_few}
 use Rattle.world_machine.proofs.StandingFences.{no_fence}
 use Rattle.world_machine.proofs.TranslationFrames.{few_numbers, few_tables, live_there}
@@ -73,7 +75,7 @@ asks_inside zones PageFault tables reached = tt
 module _ (d : List ℕ → List ℕ) (w : WorldData) (k : Kept d w) where
   -- what a hart's translations and walks are
   abbrev pub Fresh : ℕ → TlbEntry → Type 0
-  Fresh hart = IsFresh w.setup (state_of w) w.fences hart
+  Fresh hart = IsFresh w.setup (enclave_at w.enclaves) (state_of w) w.fences hart
 
   inside : (pa : Pa) → 0x80000000 ≤ pa.0 → page_at pa < 64 * w.ctl.zones → IsInside w.ctl.zones pa
   inside pa from page = record { from = from; page = page; small = omega (arith, page, few_pages d w k) }
@@ -102,18 +104,21 @@ module _ (d : List ℕ → List ℕ) (w : WorldData) (k : Kept d w) where
 
     -- ---- the accesses of an enclave that is on
 
-    module _ (e : ℕ) (live : ((state_of w).number e).live ≡ true) (budget count : ℕ) where
+    module _ (e : ℕ) (live : ((state_of w).number e).live ≡ true) (runs : number_under_way (hart_line w hart) (under_at w.under hart) ≡ Some e) (budget count : ℕ) where
       abbrev pub run_here : RunNow
       run_here = record { hart = hart; e = e; budget = budget; count = count }
+
+      acknowledged : HasAcknowledged w hart e
+      acknowledged = runs_acknowledged d w k hart e runs
 
       can_seek_number : (va : ℕ) (kind : Kind) (walk : Walk) → WalkStands w.ctl (Fresh hart) (number_view w.setup.tables e) (record { 0 = va }) walk → CanSeek w (run_request w run_here va kind) walk
       can_seek_number va kind walk stands = record {
         harts = let size : hart < length w.tlbs = omega (arith, k.stands.translations.harts, below) in size;
-        walk_is = number_walk_is d w k hart e live (record { 0 = va }) walk stands;
+        walk_is = number_walk_is d w k hart e live acknowledged (record { 0 = va }) walk stands;
         root = number_root e live;
         asks = asks_inside w.ctl.zones (sought_in w (run_request w run_here va kind) walk)
-            (λ pa level is. let at = number_asks d w k hart e live (record { 0 = va }) kind walk pa stands level is in (inside pa at.0 at.1.0, at.1.1))
-            (λ pa is. let at = number_reaches d w k hart e live (record { 0 = va }) kind walk pa stands is in inside pa at.0 at.1);
+            (λ pa level is. let at = number_asks d w k hart e live acknowledged (record { 0 = va }) kind walk pa stands level is in (inside pa at.0 at.1.0, at.1.1))
+            (λ pa is. let at = number_reaches d w k hart e live acknowledged (record { 0 = va }) kind walk pa stands is in inside pa at.0 at.1);
       }
 
       can_seek_data : (walk : Walk) (act : Act)

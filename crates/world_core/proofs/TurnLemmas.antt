@@ -21,10 +21,11 @@ use Rattle.world_machine.specs.declared.turned.Turned.{Turned}
 use Rattle.world_machine.specs.declared.turned.Turned.TheVariants as turned
 use Rattle.world_machine.specs.declared.turned.Wait.TheVariants as wait
 use Rattle.world_machine.specs.declared.under.Under.{Under}
-use Rattle.world_machine.specs.declared.under.Under.TheVariants.{Idle, Seeking, Removing, Destroying, Putting, Running}
+use Rattle.world_machine.specs.declared.under.Under.TheVariants.{Idle, Seeking, Removing, Destroying, Putting, Running, Breaking}
 use Rattle.world_machine.specs.Acknowledging.{acknowledged, owed, restarted}
 use Rattle.world_machine.specs.GivingBack.{ends_destroy}
 use Rattle.world_machine.specs.HostMapping.{ends_unmap, lacked_by}
+use Rattle.world_machine.specs.Running.{restarts}
 use Rattle.world_machine.specs.Steps as step
 use Rattle.world_machine.specs.Steps.{StepOf, Turn, moves, rests, actor_turn, attacker_turn, counted, due, turn_of, turned_by}
 use Rattle.world_machine.specs.Worlds.{Event, WorldData, answered_at, attacker_line, hart_line, under_at}
@@ -39,57 +40,81 @@ module _ (d : List ℕ → List ℕ) (w : WorldData) (hart : ℕ) (positions : L
   due_turn-line (line_is.Load va) Destroying = refl
   due_turn-line (line_is.Load va) (Putting done) = refl
   due_turn-line (line_is.Load va) (Running micro count) = refl
+  due_turn-line (line_is.Load va) (Breaking count) = refl
   due_turn-line (line_is.Store va word) Idle = refl
   due_turn-line (line_is.Store va word) (Seeking walk) = refl
   due_turn-line (line_is.Store va word) (Removing page) = refl
   due_turn-line (line_is.Store va word) Destroying = refl
   due_turn-line (line_is.Store va word) (Putting done) = refl
   due_turn-line (line_is.Store va word) (Running micro count) = refl
+  due_turn-line (line_is.Store va word) (Breaking count) = refl
   due_turn-line (line_is.Map va page perms) Idle = refl
   due_turn-line (line_is.Map va page perms) (Seeking walk) = refl
   due_turn-line (line_is.Map va page perms) (Removing now) = refl
   due_turn-line (line_is.Map va page perms) Destroying = refl
   due_turn-line (line_is.Map va page perms) (Putting done) = refl
   due_turn-line (line_is.Map va page perms) (Running micro count) = refl
+  due_turn-line (line_is.Map va page perms) (Breaking count) = refl
   due_turn-line (line_is.Unmap va) Idle = refl
   due_turn-line (line_is.Unmap va) (Seeking walk) = refl
   due_turn-line (line_is.Unmap va) (Removing page) = refl
   due_turn-line (line_is.Unmap va) Destroying = refl
   due_turn-line (line_is.Unmap va) (Putting done) = refl
   due_turn-line (line_is.Unmap va) (Running micro count) = refl
+  due_turn-line (line_is.Unmap va) (Breaking count) = refl
   due_turn-line (line_is.Create e image pages) Idle = refl
   due_turn-line (line_is.Create e image pages) (Seeking walk) = refl
   due_turn-line (line_is.Create e image pages) (Removing page) = refl
   due_turn-line (line_is.Create e image pages) Destroying = refl
   due_turn-line (line_is.Create e image pages) (Putting done) = refl
   due_turn-line (line_is.Create e image pages) (Running micro count) = refl
+  due_turn-line (line_is.Create e image pages) (Breaking count) = refl
+  due_turn-line (line_is.Shadow e image pages) Idle = refl
+  due_turn-line (line_is.Shadow e image pages) (Seeking walk) = refl
+  due_turn-line (line_is.Shadow e image pages) (Removing page) = refl
+  due_turn-line (line_is.Shadow e image pages) Destroying = refl
+  due_turn-line (line_is.Shadow e image pages) (Putting done) = refl
+  due_turn-line (line_is.Shadow e image pages) (Running micro count) = refl
+  due_turn-line (line_is.Shadow e image pages) (Breaking count) = refl
+  due_turn-line (line_is.Fork s e pages) Idle = refl
+  due_turn-line (line_is.Fork s e pages) (Seeking walk) = refl
+  due_turn-line (line_is.Fork s e pages) (Removing page) = refl
+  due_turn-line (line_is.Fork s e pages) Destroying = refl
+  due_turn-line (line_is.Fork s e pages) (Putting done) = refl
+  due_turn-line (line_is.Fork s e pages) (Running micro count) = refl
+  due_turn-line (line_is.Fork s e pages) (Breaking count) = refl
   due_turn-line (line_is.Run e budget) Idle = refl
   due_turn-line (line_is.Run e budget) (Seeking walk) = refl
   due_turn-line (line_is.Run e budget) (Removing page) = refl
   due_turn-line (line_is.Run e budget) Destroying = refl
   due_turn-line (line_is.Run e budget) (Putting done) = refl
   due_turn-line (line_is.Run e budget) (Running micro count) = refl
+  due_turn-line (line_is.Run e budget) (Breaking count) = refl
   due_turn-line (line_is.Resume e budget) Idle = refl
   due_turn-line (line_is.Resume e budget) (Seeking walk) = refl
   due_turn-line (line_is.Resume e budget) (Removing page) = refl
   due_turn-line (line_is.Resume e budget) Destroying = refl
   due_turn-line (line_is.Resume e budget) (Putting done) = refl
   due_turn-line (line_is.Resume e budget) (Running micro count) = refl
+  due_turn-line (line_is.Resume e budget) (Breaking count) = refl
   due_turn-line (line_is.Send e word) Idle = refl
   due_turn-line (line_is.Take e) Idle = refl
+  due_turn-line (line_is.Grant e page) Idle = refl
+  due_turn-line (line_is.Drop s) Idle = refl
   due_turn-line (line_is.Destroy e) Idle = refl
   due_turn-line (line_is.Destroy e) (Seeking walk) = refl
   due_turn-line (line_is.Destroy e) (Removing page) = refl
   due_turn-line (line_is.Destroy e) Destroying = refl
   due_turn-line (line_is.Destroy e) (Putting done) = refl
   due_turn-line (line_is.Destroy e) (Running micro count) = refl
+  due_turn-line (line_is.Destroy e) (Breaking count) = refl
   due_turn-line (line_is.After actor count) Idle = refl
-  due_turn-line line Idle = refl
   due_turn-line line (Seeking walk) = refl
   due_turn-line line (Removing page) = refl
   due_turn-line line Destroying = refl
   due_turn-line line (Putting done) = refl
   due_turn-line line (Running micro count) = refl
+  due_turn-line line (Breaking count) = refl
 
   nothing_due : (under : Under) → due_turn d w hart positions [] (due_of None) under ≡ rests turned.Done
   nothing_due Idle = refl
@@ -98,6 +123,7 @@ module _ (d : List ℕ → List ℕ) (w : WorldData) (hart : ℕ) (positions : L
   nothing_due Destroying = refl
   nothing_due (Putting done) = refl
   nothing_due (Running micro count) = refl
+  nothing_due (Breaking count) = refl
 
   pub due_turn-hart : (line : Option Line) → due_turn d w hart positions (pages_named line) (due_of line) (under_at w.under hart) ≡ step.hart_turn d w hart positions line
   due_turn-hart None = nothing_due (under_at w.under hart)
@@ -111,24 +137,28 @@ restarted-line space (Some (line_is.Run e budget)) (Removing page) = refl
 restarted-line space (Some (line_is.Run e budget)) Destroying = refl
 restarted-line space (Some (line_is.Run e budget)) (Putting done) = refl
 restarted-line space (Some (line_is.Run e budget)) (Running micro count) = refl
+restarted-line space (Some (line_is.Run e budget)) (Breaking count) = refl
 restarted-line space (Some (line_is.Resume e budget)) Idle = refl
 restarted-line space (Some (line_is.Resume e budget)) (Seeking walk) = refl
 restarted-line space (Some (line_is.Resume e budget)) (Removing page) = refl
 restarted-line space (Some (line_is.Resume e budget)) Destroying = refl
 restarted-line space (Some (line_is.Resume e budget)) (Putting done) = refl
 restarted-line space (Some (line_is.Resume e budget)) (Running micro count) = refl
+restarted-line space (Some (line_is.Resume e budget)) (Breaking count) = refl
 restarted-line space (Some line) Idle = refl
 restarted-line space (Some line) (Seeking walk) = refl
 restarted-line space (Some line) (Removing page) = refl
 restarted-line space (Some line) Destroying = refl
 restarted-line space (Some line) (Putting done) = refl
 restarted-line space (Some line) (Running micro count) = refl
+restarted-line space (Some line) (Breaking count) = refl
 restarted-line space None Idle = refl
 restarted-line space None (Seeking walk) = refl
 restarted-line space None (Removing page) = refl
 restarted-line space None Destroying = refl
 restarted-line space None (Putting done) = refl
 restarted-line space None (Running micro count) = refl
+restarted-line space None (Breaking count) = refl
 
 pub attack_turn-line : (d : List ℕ → List ℕ) (w : WorldData) (line : Option AttackLine) → attack_turn w (attack_of line) ≡ attacker_turn d w line
 attack_turn-line d w None = refl
@@ -141,7 +171,8 @@ is_said (due_is.Load va) = false
 is_said (due_is.Store va word) = false
 is_said (due_is.Map va page perms) = false
 is_said (due_is.Unmap va) = false
-is_said (due_is.Create e image) = false
+is_said (due_is.Create e image shadow) = false
+is_said (due_is.Fork s e) = false
 is_said (due_is.Run e budget first) = false
 is_said (due_is.Destroy e) = false
 is_said due = true
@@ -152,7 +183,8 @@ said_turn gives d w new hart pages (due_is.Load va) under answered said turn = c
 said_turn gives d w new hart pages (due_is.Store va word) under answered said turn = cc
 said_turn gives d w new hart pages (due_is.Map va page perms) under answered said turn = cc
 said_turn gives d w new hart pages (due_is.Unmap va) under answered said turn = cc
-said_turn gives d w new hart pages (due_is.Create e image) under answered said turn = cc
+said_turn gives d w new hart pages (due_is.Create e image shadow) under answered said turn = cc
+said_turn gives d w new hart pages (due_is.Fork s e) under answered said turn = cc
 said_turn gives d w new hart pages (due_is.Run e budget first) under answered said turn = cc
 said_turn gives d w new hart pages (due_is.Destroy e) under answered said turn = cc
 said_turn gives d w new hart pages due under answered said turn = turn
@@ -193,42 +225,63 @@ module _ (d : List ℕ → List ℕ) (w : WorldData) where
   due-sound hart positions (line_is.Unmap va) Destroying = refl
   due-sound hart positions (line_is.Unmap va) (Putting done) = refl
   due-sound hart positions (line_is.Unmap va) (Running micro count) = refl
+  due-sound hart positions (line_is.Unmap va) (Breaking count) = refl
   due-sound hart positions (line_is.Load va) Idle = refl
   due-sound hart positions (line_is.Load va) (Seeking walk) = refl
   due-sound hart positions (line_is.Load va) (Removing page) = refl
   due-sound hart positions (line_is.Load va) Destroying = refl
   due-sound hart positions (line_is.Load va) (Putting done) = refl
   due-sound hart positions (line_is.Load va) (Running micro count) = refl
+  due-sound hart positions (line_is.Load va) (Breaking count) = refl
   due-sound hart positions (line_is.Store va word) Idle = refl
   due-sound hart positions (line_is.Store va word) (Seeking walk) = refl
   due-sound hart positions (line_is.Store va word) (Removing page) = refl
   due-sound hart positions (line_is.Store va word) Destroying = refl
   due-sound hart positions (line_is.Store va word) (Putting done) = refl
   due-sound hart positions (line_is.Store va word) (Running micro count) = refl
+  due-sound hart positions (line_is.Store va word) (Breaking count) = refl
   due-sound hart positions (line_is.Create e image pages) Idle = refl
   due-sound hart positions (line_is.Create e image pages) (Seeking walk) = refl
   due-sound hart positions (line_is.Create e image pages) (Removing page) = refl
   due-sound hart positions (line_is.Create e image pages) Destroying = refl
   due-sound hart positions (line_is.Create e image pages) (Putting done) = refl
   due-sound hart positions (line_is.Create e image pages) (Running micro count) = refl
+  due-sound hart positions (line_is.Create e image pages) (Breaking count) = refl
+  due-sound hart positions (line_is.Shadow e image pages) Idle = refl
+  due-sound hart positions (line_is.Shadow e image pages) (Seeking walk) = refl
+  due-sound hart positions (line_is.Shadow e image pages) (Removing page) = refl
+  due-sound hart positions (line_is.Shadow e image pages) Destroying = refl
+  due-sound hart positions (line_is.Shadow e image pages) (Putting done) = refl
+  due-sound hart positions (line_is.Shadow e image pages) (Running micro count) = refl
+  due-sound hart positions (line_is.Shadow e image pages) (Breaking count) = refl
+  due-sound hart positions (line_is.Fork s e pages) Idle = refl
+  due-sound hart positions (line_is.Fork s e pages) (Seeking walk) = refl
+  due-sound hart positions (line_is.Fork s e pages) (Removing page) = refl
+  due-sound hart positions (line_is.Fork s e pages) Destroying = refl
+  due-sound hart positions (line_is.Fork s e pages) (Putting done) = refl
+  due-sound hart positions (line_is.Fork s e pages) (Running micro count) = refl
+  due-sound hart positions (line_is.Fork s e pages) (Breaking count) = refl
   due-sound hart positions (line_is.Run e budget) Idle = refl
   due-sound hart positions (line_is.Run e budget) (Seeking walk) = refl
   due-sound hart positions (line_is.Run e budget) (Removing page) = refl
   due-sound hart positions (line_is.Run e budget) Destroying = refl
   due-sound hart positions (line_is.Run e budget) (Putting done) = refl
   due-sound hart positions (line_is.Run e budget) (Running micro count) = refl
+  due-sound hart positions (line_is.Run e budget) (Breaking count) = waiting-sound (restarts w hart count) (lacked_by w hart)
   due-sound hart positions (line_is.Resume e budget) Idle = refl
   due-sound hart positions (line_is.Resume e budget) (Seeking walk) = refl
   due-sound hart positions (line_is.Resume e budget) (Removing page) = refl
   due-sound hart positions (line_is.Resume e budget) Destroying = refl
   due-sound hart positions (line_is.Resume e budget) (Putting done) = refl
   due-sound hart positions (line_is.Resume e budget) (Running micro count) = refl
+  due-sound hart positions (line_is.Resume e budget) (Breaking count) = waiting-sound (restarts w hart count) (lacked_by w hart)
   due-sound hart positions (line_is.Destroy e) Idle = refl
   due-sound hart positions (line_is.Destroy e) (Seeking walk) = refl
   due-sound hart positions (line_is.Destroy e) (Removing page) = refl
   due-sound hart positions (line_is.Destroy e) Destroying = waiting-sound (ends_destroy w hart e) (lacked_by w hart)
   due-sound hart positions (line_is.Destroy e) (Putting done) = refl
   due-sound hart positions (line_is.Destroy e) (Running micro count) = refl
+  due-sound hart positions (line_is.Destroy e) (Breaking count) = refl
   due-sound hart positions (line_is.After actor count) Idle = waits-sound w actor count _
   due-sound hart positions line Idle = refl
   due-sound hart positions line (Seeking walk) = refl
@@ -236,6 +289,7 @@ module _ (d : List ℕ → List ℕ) (w : WorldData) where
   due-sound hart positions line Destroying = refl
   due-sound hart positions line (Putting done) = refl
   due-sound hart positions line (Running micro count) = refl
+  due-sound hart positions line (Breaking count) = refl
 
   hart-sound : (hart : ℕ) (positions : List ℕ) (line : Option Line) → is_sound (step.hart_turn d w hart positions line) ≡ true
   hart-sound hart positions None = refl

@@ -7,7 +7,7 @@ use Rattle.world_core.specs.declared.dues.Attack.TheVariants as attack_is
 use Rattle.world_core.specs.declared.dues.Due.{Due}
 use Rattle.world_core.specs.declared.dues.Due.TheVariants as due_is
 use Rattle.world_machine.specs.declared.under.Under.{Under}
-use Rattle.world_machine.specs.declared.under.Under.TheVariants.{Idle, Seeking, Removing, Destroying, Putting, Running}
+use Rattle.world_machine.specs.declared.under.Under.TheVariants.{Idle, Seeking, Removing, Destroying, Putting, Running, Breaking}
 use Rattle.world_machine.specs.Runs.{is_still}
 use Rattle.world_machine.specs.Steps.{actor_turn, turned_by}
 use Rattle.world_machine.specs.Worlds.{WorldData, answered_at}
@@ -25,14 +25,16 @@ waits_still w (due_is.After actor count) = nat_lt (answered_at w.answered actor)
 waits_still w due_is.Nothing = true
 waits_still w due = false
 
--- A line has no event. A removal or a giving back under way moves, or waits for acknowledgements, which then move.
+-- A line has no event. A removal, a giving back or a break under way moves, or waits for acknowledgements, which then move.
 abbrev pub due_still : WorldData → Due → Under → Bool
 due_still w due Idle = waits_still w due
 due_still w (due_is.Load va) (Seeking walk) = false
 due_still w (due_is.Store va word) (Seeking walk) = false
 due_still w (due_is.Unmap va) (Removing page) = false
-due_still w (due_is.Create e image) (Putting done) = false
+due_still w (due_is.Create e image shadow) (Putting done) = false
+due_still w (due_is.Fork s e) (Putting done) = false
 due_still w (due_is.Run e budget first) (Running micro count) = false
+due_still w (due_is.Run e budget first) (Breaking count) = false
 due_still w (due_is.Destroy e) Destroying = false
 due_still w due under = true
 

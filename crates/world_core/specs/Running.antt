@@ -11,7 +11,7 @@ use Rattle.world_core.specs.declared.running.Run.{Run}
 use Rattle.world_core.specs.declared.walking.Purpose.{Purpose}
 use Rattle.world_core.specs.declared.walking.Purpose.TheVariants as purpose_is
 use Rattle.world_machine.specs.Pages.{part_of_word}
-use Rattle.world_machine.specs.Running.{RunNow, acts, faults, retired_with, retires}
+use Rattle.world_machine.specs.Running.{RunNow, acts, breaks_done, faults, retired_with, retires}
 use Rattle.world_machine.specs.Worlds.{WorldData}
 
 abbrev pub run_now : Run → RunNow
@@ -44,6 +44,10 @@ abbrev pub store_goes : RunNow → WorldData → Unit {0} → WorldData
 store_goes run left done =
     let r : Enclave = runner left run in
     retires left run (retired_with r (advanced r.context))
+
+-- a page was broken
+abbrev pub break_goes : RunNow → ℕ → WorldData → Unit {0} → WorldData
+break_goes run index left done = breaks_done left run index
 
 abbrev pub run_faults : RunNow → WorldData → Place → WorldData
 run_faults run left place = faults run (runner left run) left place

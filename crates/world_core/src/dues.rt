@@ -13,18 +13,22 @@ use pl_history::{AttackLine, Line, SetupParts};
 /// A hart's line without the pages that it names.
 #[derive(Clone, Copy)]
 pub(crate) enum Due {
-    /// No line, or one that isn't built.
+    /// No line.
     Nothing,
     Load { va: Va },
     Store { va: Va, word: u64 },
     Map { va: Va, page: u32, perms: Perms },
     Unmap { va: Va },
-    Create { e: EncNo, image: u8 },
+    /// `create`, or where it is a shadow, `shadow`.
+    Create { e: EncNo, image: u8, shadow: bool },
+    Fork { s: EncNo, e: EncNo },
+    Grant { e: EncNo, page: u32 },
     /// `run`, where it is the first run, and else `resume`.
     Run { e: EncNo, budget: u32, first: bool },
     Send { e: EncNo, word: u64 },
     Take { e: EncNo },
     Destroy { e: EncNo },
+    Drop { s: EncNo },
     After { actor: u8, count: u32 },
 }
 
@@ -47,7 +51,15 @@ fn due_of(line: Option<&Line>) -> Due
         Some(Line::Create { e, image, .. }) => Due::Create {
             e: *e,
             image: *image,
+            shadow: false,
         },
+        Some(Line::Shadow { e, image, .. }) => Due::Create {
+            e: *e,
+            image: *image,
+            shadow: true,
+        },
+        Some(Line::Fork { s, e, .. }) => Due::Fork { s: *s, e: *e },
+        Some(Line::Grant { e, page }) => Due::Grant { e: *e, page: *page },
         Some(Line::Run { e, budget }) => Due::Run {
             e: *e,
             budget: *budget,
@@ -61,6 +73,7 @@ fn due_of(line: Option<&Line>) -> Due
         Some(Line::Send { e, word }) => Due::Send { e: *e, word: *word },
         Some(Line::Take { e }) => Due::Take { e: *e },
         Some(Line::Destroy { e }) => Due::Destroy { e: *e },
+        Some(Line::Drop { s }) => Due::Drop { s: *s },
         Some(Line::After { actor, count }) => Due::After {
             actor: *actor,
             count: *count,

@@ -1,19 +1,21 @@
-// The events of `destroy`.
+// The events of `destroy`, and that of `drop`.
 ghost use Rattle.std.specs.Prelude.{◌≡◌, ◌<◌, length};
 ghost use Rattle.std.specs.Fn.{FnReturnsAt};
 ghost use Rattle.std.specs.Option.{IsSomeAnd};
 ghost use Rattle.std.specs.Result.{result_err};
 ghost use Rattle.mon_fence.specs.Fences.{fence_of};
 ghost use Rattle.mon_life.specs.Destroying.{destroy_begun};
-ghost use Rattle.world_core.specs.Conditions.{CanDestroy, CanEndDestroy, CanGo};
+ghost use Rattle.mon_shadow.specs.Dropping.{shadow_dropped};
+ghost use Rattle.world_core.specs.Conditions.{CanDestroy, CanDrop, CanEndDestroy, CanGo};
 ghost use Rattle.world_core.specs.Turns.{IsTurn};
-ghost use Rattle.world_machine.specs.GivingBack.{begins_destroy, destroys_unless, ends_destroy};
+ghost use Rattle.world_machine.specs.GivingBack.{begins_destroy, destroys_unless, drops_shadow, ends_destroy};
 ghost use Rattle.world_machine.specs.HostMapping.{lacked_by};
 ghost use Rattle.world_machine.specs.Steps.{waiting_turn};
 
 use crate::machine::Machine;
 use mem_slots::SlotUse;
 use mon_life::{destroy_begin, destroy_end};
+use mon_shadow::drop_shadow;
 use pl_base::{EncNo, HartNo, No, Space};
 use pl_digest::Digester;
 use pl_history::Answer;
@@ -68,6 +70,32 @@ impl<D: Digester, F> Machine<D, F> {
             e,
         );
         self.answer(hart, Answer::Ok);
+    }
+
+    /// Zeroes the pages of a shadow and gives them back, and frees its number.
+    fn give_shadow_back(&mut self, hart: HartNo, s: EncNo) -> Result<(), No>
+        requires can { CanDrop self.old.0 hart.0 s.0 }
+        ensures refusal { result_err result ≡ (shadow_dropped self.old.0.ctl self.old.0.owners self.old.0.enclaves s.0).refusal }
+        ensures world { self.new ≡ (
+          record self.old.0 {
+            ctl = (shadow_dropped self.old.0.ctl self.old.0.owners self.old.0.enclaves s.0).ctl;
+            owners = (shadow_dropped self.old.0.ctl self.old.0.owners self.old.0.enclaves s.0).owners;
+            enclaves = (shadow_dropped self.old.0.ctl self.old.0.owners self.old.0.enclaves s.0).enclaves;
+          },
+          self.old.1,
+        ) }
+    {
+        let _hart = hart;
+        drop_shadow(&mut self.ctl, &mut self.owners, &mut self.enclaves, s)
+    }
+
+    /// `drop`.
+    pub(crate) fn drop_shadow(&mut self, hart: HartNo, s: EncNo)
+        requires { CanDrop self.old.0 hart.0 s.0 }
+        ensures { self.new ≡ ((drops_shadow self.old.0 hart.0 s.0).world, self.old.1) }
+    {
+        let dropped = self.give_shadow_back(hart, s);
+        self.answer_by(hart, dropped);
     }
 }
 

@@ -4,6 +4,7 @@
 mod acknowledging;
 mod acting;
 mod attacking;
+mod breaking;
 mod dues;
 mod giving_back;
 mod host_accessing;
@@ -21,10 +22,8 @@ mod talking;
 mod tlbs;
 mod translating;
 mod turns;
-mod unbuilt;
 mod walking;
 mod world;
 
-pub use unbuilt::first_unbuilt;
 pub use world::World;
 pub use world_machine::{Finished, Turned, Wait};

@@ -6,7 +6,7 @@ ghost use Rattle.pl_history.specs.History.{part_end};
 ghost use Rattle.world_core.specs.Conditions.{CanAnswer, CanGo};
 ghost use Rattle.world_core.specs.Parts.{collision_data};
 ghost use Rattle.world_machine.specs.Answering.{answers, begins, entry_now, goes_on, keeps_collision, with_entry};
-ghost use Rattle.world_machine.specs.Making.{begins_unless};
+ghost use Rattle.world_machine.specs.Making.{answers_by, begins_unless};
 ghost use Rattle.world_machine.specs.Worlds.{answered_at, under_at};
 
 use crate::tlbs::Tlbs;
@@ -147,6 +147,17 @@ impl<D: Digester, F> Machine<D, F> {
     {
         match begun {
             Ok(()) => self.begin(hart, under),
+            Err(cause) => self.answer(hart, Answer::No(cause)),
+        }
+    }
+
+    /// A hart's line is answered at once, by its refusal or `ok`.
+    pub(crate) fn answer_by(&mut self, hart: HartNo, done: Result<(), No>)
+        requires { CanGo self.old.0 hart.0 }
+        ensures { self.new ≡ (answers_by (result_err done) self.old.0 hart.0, self.old.1) }
+    {
+        match done {
+            Ok(()) => self.answer(hart, Answer::Ok),
             Err(cause) => self.answer(hart, Answer::No(cause)),
         }
     }

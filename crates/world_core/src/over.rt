@@ -45,10 +45,13 @@ impl<D: Digester, F> Machine<D, F> {
             Due::Map { .. } => false,
             Due::Unmap { .. } => false,
             Due::Create { .. } => false,
+            Due::Fork { .. } => false,
+            Due::Grant { .. } => false,
             Due::Run { .. } => false,
             Due::Send { .. } => false,
             Due::Take { .. } => false,
             Due::Destroy { .. } => false,
+            Due::Drop { .. } => false,
         }
     }
 
@@ -62,7 +65,9 @@ impl<D: Digester, F> Machine<D, F> {
             (Due::Store { .. }, Under::Seeking { .. }) => false,
             (Due::Unmap { .. }, Under::Removing { .. }) => false,
             (Due::Create { .. }, Under::Putting { .. }) => false,
+            (Due::Fork { .. }, Under::Putting { .. }) => false,
             (Due::Run { .. }, Under::Running { .. }) => false,
+            (Due::Run { .. }, Under::Breaking { .. }) => false,
             (Due::Destroy { .. }, Under::Destroying) => false,
             _ => true,
         }

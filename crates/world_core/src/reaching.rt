@@ -1,36 +1,24 @@
-// The last event of an instruction's access: in its page, or where no page serves it.
+// The last event of an instruction's access, in its page.
 ghost use Rattle.std.specs.Prelude.{◌≡◌, ◌<◌, ◌*◌, ◌%◌, IsTrue, Some};
 ghost use Rattle.std.specs.Fn.{FnReturnsAt};
 ghost use Rattle.pl_base.specs.Width.{is_width};
 ghost use Rattle.mem_ctl.specs.Calls.{write_part_of};
 ghost use Rattle.mem_ctl.specs.Results.{IsCall, outcome_of};
 ghost use Rattle.mem_slots.specs.Choices.{NamesPosition};
-ghost use Rattle.mon_enclave.specs.Records.{enclave_at};
-ghost use Rattle.world_core.specs.Conditions.{CanLeave, CanRun};
+ghost use Rattle.world_core.specs.Conditions.{CanRun};
 ghost use Rattle.world_core.specs.Events.{IsEvent};
 ghost use Rattle.world_core.specs.Running.{fetch_goes, load_goes, run_faults, run_now, runner, store_goes};
 ghost use Rattle.world_machine.specs.Answering.{decided};
-ghost use Rattle.world_machine.specs.Pages.{fault_cause, part_of_word, word_offset};
-ghost use Rattle.world_machine.specs.Running.{fetched_in, loads_in, page_faults, stores_in};
+ghost use Rattle.world_machine.specs.Pages.{part_of_word, word_offset};
+ghost use Rattle.world_machine.specs.Running.{fetched_in, loads_in, stores_in};
 
 use crate::machine::Machine;
 use crate::running::Run;
 use mem_ctl::Broken;
 use mem_slots::SlotUse;
-use pl_base::{Kind, PAGE_BYTES, Why};
+use pl_base::{PAGE_BYTES, Why};
 use pl_digest::Digester;
 use rv_alone::{loaded, next, passed};
-
-/// The cause of the trap where no page lets an access through.
-fn fault_cause(kind: Kind) -> u8
-    ensures { result ≡ fault_cause kind }
-{
-    match kind {
-        Kind::Fetch => 12,
-        Kind::Load => 13,
-        Kind::Store => 15,
-    }
-}
 
 /// The offset in its page of the eight bytes, at a multiple of 8, that hold a part at an address.
 fn word_offset(address: u64) -> u16
@@ -52,14 +40,6 @@ fn part_of_word(word: u64, address: u64, width: u8) -> u64
 }
 
 impl<D: Digester, F> Machine<D, F> {
-    /// No page serves an access: the enclave traps.
-    pub(crate) fn page_fault(&mut self, run: Run, kind: Kind, address: u64)
-        requires { CanLeave self.old.0 (run_now run) }
-        ensures { self.new ≡ ((page_faults self.old.0 (run_now run) (enclave_at self.old.0.enclaves run.e.0) kind address).world, self.old.1) }
-    {
-        self.trap(run, fault_cause(kind), address);
-    }
-
     /// What the fetch of an instruction comes to.
     fn fetched(&mut self, run: Run, eight: Result<u64, Broken>)
         requires { CanRun self.old.0 (run_now run) }

@@ -4,7 +4,7 @@ ghost use Rattle.std.specs.Fn.{FnReturnsAt};
 ghost use Rattle.mem_slots.specs.Choices.{NamesPosition};
 ghost use Rattle.world_core.specs.Conditions.{CanGo, pages_due};
 ghost use Rattle.world_core.specs.HostAccessing.{access_now};
-ghost use Rattle.world_core.specs.Turns.{CanAccessSoFar, CanCreateSoFar, CanDestroySoFar, CanDue, CanMapSoFar, CanRunSoFar, CanSay, CanSayIdle, CanUnmapSoFar, IsTurn, access_turn, begun_turn, create_turn, destroy_so_far, due_turn, map_turn, run_turn, say_turn, unmap_so_far};
+ghost use Rattle.world_core.specs.Turns.{CanAccessSoFar, CanCreateSoFar, CanDestroySoFar, CanDue, CanForkSoFar, CanMapSoFar, CanRunSoFar, CanSay, CanSayIdle, CanUnmapSoFar, IsTurn, access_turn, begun_turn, create_turn, destroy_so_far, due_turn, fork_turn, map_turn, run_turn, say_turn, unmap_so_far};
 ghost use Rattle.world_machine.specs.Answering.{answers, quiet};
 ghost use Rattle.world_machine.specs.Steps.{waits};
 
@@ -33,6 +33,7 @@ impl<D: Digester, F: Fn(&[SlotUse]) -> usize> Machine<D, F> {
             Under::Destroying => return Turned::Done,
             Under::Putting { .. } => return Turned::Done,
             Under::Running { .. } => return Turned::Done,
+            Under::Breaking { .. } => return Turned::Done,
         }
         Turned::Moved
     }
@@ -51,6 +52,7 @@ impl<D: Digester, F: Fn(&[SlotUse]) -> usize> Machine<D, F> {
             Under::Destroying => return Turned::Done,
             Under::Putting { .. } => return Turned::Done,
             Under::Running { .. } => return Turned::Done,
+            Under::Breaking { .. } => return Turned::Done,
         }
         Turned::Moved
     }
@@ -72,25 +74,46 @@ impl<D: Digester, F: Fn(&[SlotUse]) -> usize> Machine<D, F> {
             Under::Destroying => Turned::Done,
             Under::Putting { .. } => Turned::Done,
             Under::Running { .. } => Turned::Done,
+            Under::Breaking { .. } => Turned::Done,
         }
     }
 }
 
 impl<D: Digester, F: Fn(&[SlotUse]) -> usize> Machine<D, F> {
-    /// `create`, so far.
-    fn create(&mut self, hart: HartNo, e: EncNo, image: u8, under: Under) -> Turned
-        requires can { CanCreateSoFar self.old.0 hart.0 e.0 image under }
+    /// `create` and `shadow`, so far.
+    fn create(&mut self, hart: HartNo, e: EncNo, image: u8, shadow: bool, under: Under) -> Turned
+        requires can { CanCreateSoFar self.old.0 hart.0 e.0 image shadow under }
         requires choice { NamesPosition F.Fn self.old.1 }
-        ensures turn { IsTurn (FnReturnsAt F.Fn self.old.1) (λ positions. create_turn D.digest_of self.old.0 hart.0 positions (pages_due self.old.0 hart.0) e.0 image under) result self.old.0 self.new.0 }
+        ensures turn { IsTurn (FnReturnsAt F.Fn self.old.1) (λ positions. create_turn D.digest_of self.old.0 hart.0 positions (pages_due self.old.0 hart.0) e.0 image shadow under) result self.old.0 self.new.0 }
         ensures choice { self.new.1 ≡ self.old.1 }
     {
         match under {
-            Under::Idle => self.begin_create(hart, e, image),
-            Under::Putting { done } => self.put_next(hart, e, image, done),
+            Under::Idle => self.begin_create(hart, e, image, shadow),
+            Under::Putting { done } => self.put_next(hart, e, image, shadow, done),
             Under::Seeking { .. } => return Turned::Done,
             Under::Removing { .. } => return Turned::Done,
             Under::Destroying => return Turned::Done,
             Under::Running { .. } => return Turned::Done,
+            Under::Breaking { .. } => return Turned::Done,
+        }
+        Turned::Moved
+    }
+
+    /// `fork`, so far.
+    fn fork(&mut self, hart: HartNo, s: EncNo, e: EncNo, under: Under) -> Turned
+        requires can { CanForkSoFar self.old.0 hart.0 s.0 e.0 under }
+        requires choice { NamesPosition F.Fn self.old.1 }
+        ensures turn { IsTurn (FnReturnsAt F.Fn self.old.1) (λ positions. fork_turn D.digest_of self.old.0 hart.0 positions (pages_due self.old.0 hart.0) s e.0 under) result self.old.0 self.new.0 }
+        ensures choice { self.new.1 ≡ self.old.1 }
+    {
+        match under {
+            Under::Idle => self.begin_fork(hart, s, e),
+            Under::Putting { done } => self.put_fork(hart, e, done),
+            Under::Seeking { .. } => return Turned::Done,
+            Under::Removing { .. } => return Turned::Done,
+            Under::Destroying => return Turned::Done,
+            Under::Running { .. } => return Turned::Done,
+            Under::Breaking { .. } => return Turned::Done,
         }
         Turned::Moved
     }
@@ -115,6 +138,7 @@ impl<D: Digester, F: Fn(&[SlotUse]) -> usize> Machine<D, F> {
                 };
                 self.go(run, micro);
             }
+            Under::Breaking { count } => return self.breaking_turn(hart, count),
             Under::Seeking { .. } => return Turned::Done,
             Under::Removing { .. } => return Turned::Done,
             Under::Destroying => return Turned::Done,
@@ -139,6 +163,7 @@ impl<D: Digester, F: Fn(&[SlotUse]) -> usize> Machine<D, F> {
             Under::Removing { .. } => Turned::Done,
             Under::Putting { .. } => Turned::Done,
             Under::Running { .. } => Turned::Done,
+            Under::Breaking { .. } => Turned::Done,
         }
     }
 
@@ -165,12 +190,15 @@ impl<D: Digester, F: Fn(&[SlotUse]) -> usize> Machine<D, F> {
         match due {
             Due::Send { e, word } => self.send(hart, e, word),
             Due::Take { e } => self.take(hart, e),
+            Due::Grant { e, page } => self.grant(hart, e, page),
+            Due::Drop { s } => self.drop_shadow(hart, s),
             Due::After { actor, count } => return self.wait(hart, actor, count),
             Due::Load { .. } => return Turned::Done,
             Due::Store { .. } => return Turned::Done,
             Due::Map { .. } => return Turned::Done,
             Due::Unmap { .. } => return Turned::Done,
             Due::Create { .. } => return Turned::Done,
+            Due::Fork { .. } => return Turned::Done,
             Due::Run { .. } => return Turned::Done,
             Due::Destroy { .. } => return Turned::Done,
             Due::Nothing => return Turned::Done,
@@ -191,6 +219,7 @@ impl<D: Digester, F: Fn(&[SlotUse]) -> usize> Machine<D, F> {
             Under::Destroying => Turned::Done,
             Under::Putting { .. } => Turned::Done,
             Under::Running { .. } => Turned::Done,
+            Under::Breaking { .. } => Turned::Done,
         }
     }
 
@@ -206,10 +235,13 @@ impl<D: Digester, F: Fn(&[SlotUse]) -> usize> Machine<D, F> {
             Due::Store { va, word } => self.access(hart, va, WordAccess::Store { word }, under),
             Due::Map { va, page, perms } => self.map_line(hart, va, page, perms, under),
             Due::Unmap { va } => self.unmap_line(hart, va, under),
-            Due::Create { e, image } => self.create(hart, e, image, under),
+            Due::Create { e, image, shadow } => self.create(hart, e, image, shadow, under),
+            Due::Fork { s, e } => self.fork(hart, s, e, under),
             Due::Run { e, budget, first } => self.run(hart, e, budget, first, under),
             Due::Destroy { e } => self.destroy(hart, e, under),
             Due::Send { .. } => self.say_idle(hart, due, under),
+            Due::Grant { .. } => self.say_idle(hart, due, under),
+            Due::Drop { .. } => self.say_idle(hart, due, under),
             Due::Take { .. } => self.say_idle(hart, due, under),
             Due::After { .. } => self.say_idle(hart, due, under),
             Due::Nothing => self.say_idle(hart, due, under),

@@ -6,7 +6,7 @@ ghost use Rattle.mem_ctl.specs.Results.{outcome_of};
 ghost use Rattle.mem_slots.specs.Choices.{NamesPosition};
 ghost use Rattle.mon_enclave.specs.Records.{enclave_at};
 ghost use Rattle.rv_alone.specs.Effect.{IsAccess, act_of};
-ghost use Rattle.world_core.specs.Conditions.{CanReach, CanRun, CanSeekData};
+ghost use Rattle.world_core.specs.Conditions.{CanBreak, CanReach, CanRun, CanSeekData};
 ghost use Rattle.world_core.specs.Events.{IsEvent};
 ghost use Rattle.world_core.specs.Running.{micro_with, run_faults, run_now, runner};
 ghost use Rattle.world_core.specs.Translating.{CanLearn, CanSeek, IsInside, request_now, table_goes};
@@ -172,6 +172,7 @@ impl<D: Digester, F: Fn(&[SlotUse]) -> usize> Machine<D, F> {
         rd: u8,
     )
         requires can { CanRun self.old.0 (run_now run) }
+        requires breaks { CanBreak self.old.0 (run_now run) }
         requires seeks { CanSeek self.old.0 (run_request self.old.0 (run_now run) address Kind.Load) walk }
         requires width { IsTrue (is_width width) }
         requires rd { rd < 32 }
@@ -194,6 +195,7 @@ impl<D: Digester, F: Fn(&[SlotUse]) -> usize> Machine<D, F> {
     /// The data of a store is reached, whose walk is so far.
     fn store(&mut self, run: Run, word: u32, walk: Walk, address: u64, width: u8, value: u64)
         requires can { CanRun self.old.0 (run_now run) }
+        requires breaks { CanBreak self.old.0 (run_now run) }
         requires seeks { CanSeek self.old.0 (run_request self.old.0 (run_now run) address Kind.Store) walk }
         requires width { IsTrue (is_width width) }
         requires aligned { address % width ≡ 0 }
@@ -216,6 +218,7 @@ impl<D: Digester, F: Fn(&[SlotUse]) -> usize> Machine<D, F> {
     /// The data of an instruction that loads or stores is reached; no other instruction seeks data.
     fn reach(&mut self, run: Run, word: u32, walk: Walk, act: Act)
         requires can { CanRun self.old.0 (run_now run) }
+        requires breaks { CanBreak self.old.0 (run_now run) }
         requires seeks { CanSeekData self.old.0 (run_now run) walk act }
         requires access { IsAccess act }
         requires choice { NamesPosition F.Fn self.old.1 }

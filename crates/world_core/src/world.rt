@@ -1,5 +1,5 @@
 // The world: the machine in a state that a run of its setup reaches.
-ghost use Rattle.std.specs.Prelude.{◌≡◌, ◌≢◌, ℕ, List, None, IfSome, IfOk, IsTrue, option_map, map, length, ◌≤◌, ◌<◌};
+ghost use Rattle.std.specs.Prelude.{◌≡◌, ◌≢◌, ℕ, List, IfSome, IfOk, IsTrue, option_map, map, length, ◌≤◌, ◌<◌};
 ghost use Rattle.std.specs.Fn.{FnReturnsAt};
 ghost use Rattle.std.specs.Option.{option_copied};
 ghost use Rattle.mem_slots.specs.Choices.{NamesPosition};
@@ -13,7 +13,6 @@ ghost use Rattle.world_core.specs.Parts.{collision_data};
 ghost use Rattle.world_machine.specs.Runs.{over_of};
 ghost use Rattle.world_machine.specs.Standing.{Kept};
 ghost use Rattle.world_machine.specs.Steps.{StepOf, turn_of, turned_by};
-ghost use Rattle.world_machine.specs.Unbuilt.{first_unbuilt_of};
 ghost use Rattle.world_machine.specs.Worlds.{tlb_at};
 
 use crate::machine::Machine;
@@ -50,15 +49,13 @@ impl<D: Digester, F> Model for World<D, F> {
 }
 
 impl<D: Digester, F: Drop> World<D, F> {
-    /// The world with which a run of a setup begins, each of whose lines is built. It takes all memory that the run needs, and fails for
-    /// want of memory alone.
+    /// The world with which a run of a setup begins. It takes all memory that the run needs, and fails for want of memory alone.
     pub fn new(
         alloc: Global,
         digester: D,
         setup: Setup,
         choice: Choice<F>,
     ) -> Result<World<D, F>, Memory>
-        requires { first_unbuilt_of setup ≡ None }
         ensures { IfOk result (λ world. world ≡ (opening_world D.digest_of setup, choice)) }
     {
         let _rules = setup.parts();

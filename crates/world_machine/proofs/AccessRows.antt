@@ -57,16 +57,17 @@ module _ (digest_of : List ℕ → List ℕ) (w : WorldData) (k : Kept digest_of
   }
 
   module _ (room_stays : RoomStays) (none : w.collision ≡ None) (hart : ℕ) (below : hart < w.setup.harts) where
-    attacks : OnlyAttacksDiffer w.setup.zones ctl.off_chip ctl.mirror s.attacks w.owners s.number (hart_line w) (under_at w.under)
-    attacks = attacks_frame w.setup.zones w.ctl.off_chip w.ctl.mirror ctl.off_chip ctl.mirror s.attacks s.attacks w.owners w.owners s.number s.number
+    attacks : OnlyAttacksDiffer w.setup.zones ctl.off_chip ctl.mirror s.attacks w.owners (enclave_at w.enclaves) s.number (hart_line w) (under_at w.under)
+    attacks = attacks_frame w.setup.zones w.ctl.off_chip w.ctl.mirror ctl.off_chip ctl.mirror s.attacks s.attacks w.owners w.owners (enclave_at w.enclaves) (enclave_at w.enclaves)
+        s.number s.number
         (hart_line w) (hart_line w) (under_at w.under) (under_at w.under) hart w.setup.enclaves stayed_frame.bytes
         (record {
           guarded = λ page is. is;
-          lives = λ e other. refl;
+          made = λ e other. refl;
           pages = λ e other. refl;
           lines = λ other differs. refl;
           unders = λ other differs. refl;
-          live_own = λ page is live. page_left page (k.stands.attacks.live page w.setup.enclaves is live);
+          made_own = λ page is made. page_left page (k.stands.attacks.made page w.setup.enclaves is made);
           put_own = λ page put. page_left page (k.stands.attacks.put hart page put);
         })
         k.stands.attacks
@@ -89,6 +90,7 @@ module _ (digest_of : List ℕ → List ℕ) (w : WorldData) (k : Kept digest_of
       trees = leaves.kept;
       owners_agree = record { owner = k.stands.owners.owner; maps = k.stands.owners.maps };
       records = k.stands.records;
+      pages_agree = k.stands.pages;
       enclaves_agree = enclaves_agree digest_of w k none hart ctl w.owners s stayed_frame;
       host = host;
       attacks = attacks;

@@ -21,22 +21,22 @@ use Rattle.mon_fence.specs.Fences.{acked, fence_of}
 use Rattle.mon_fence.proofs.Needs.{fence_of-set_other}
 use Rattle.mon_tables.specs.Space.{Mapping}
 use Rattle.pl_history.specs.declared.line.Line.{Line}
-use Rattle.pl_history.specs.declared.line.Line.TheVariants.{Load, Store, Unmap, Create, Run, Resume, Destroy}
+use Rattle.pl_history.specs.declared.line.Line.TheVariants.{Load, Store, Unmap, Create, Shadow, Fork, Run, Resume, Destroy}
 use Rattle.pl_history.specs.declared.setup.SetupParts.{SetupParts}
 use Rattle.pl_history.specs.Monitor.{Monitor, Number}
 use Rattle.world_attack.specs.Room.{RoomStays}
 use Rattle.world_machine.specs.declared.under.Under.{Under}
-use Rattle.world_machine.specs.declared.under.Under.TheVariants.{Idle, Seeking, Removing, Destroying, Putting, Running}
+use Rattle.world_machine.specs.declared.under.Under.TheVariants.{Idle, Seeking, Removing, Destroying, Putting, Running, Breaking}
 use Rattle.world_machine.specs.Acknowledging.{acknowledged, restarted, without_covered}
 use Rattle.world_machine.specs.BytesAgree.{HasPut, OnlyAttacksDiffer, PageAgrees}
-use Rattle.world_machine.specs.FencesStand.{FenceStands, GivingStands, RemovalStands, removals_by}
+use Rattle.world_machine.specs.FencesStand.{FenceStands, NumberFenceStands, RemovalStands, removals_by}
 use Rattle.world_machine.specs.LinesUnderWay.{LineUnderWay, IsRunning, access_of, number_under_way}
 use Rattle.world_machine.specs.RecordsAgree.{is_begun}
 use Rattle.world_machine.specs.Standing.{Kept, state_of, written_page}
 use Rattle.world_machine.specs.Translating.{host_view, number_view}
 use Rattle.world_machine.specs.TranslationsAgree.{IsFresh, MayUseNumber, WalkStands, WalkingStands, walking, walking_of}
 use Rattle.world_machine.specs.Worlds.{WorldData, answered_at, hart_line, tlb_at, under_at}
-use Rattle.world_machine.proofs.Freshness.{acked_leaving, acked_leaving_own, acked_same, acked_used, acked_used_own, is_covered, left_all, other_uncovered}
+use Rattle.world_machine.proofs.Freshness.{acked_owed, acked_owed_own, acked_same, acked_used, acked_used_own, is_covered, left_all, other_uncovered}
 use Rattle.world_machine.proofs.HostRows.{HostFrame}
 use Rattle.world_machine.proofs.HostChanges.{HostChange, host_changed}
 use Rattle.world_machine.proofs.Leaving.{acked_gives}
@@ -58,6 +58,8 @@ restarted_begun space line under = refl
 seeks_no_number : (line : Option Line) (walk : Walk) → number_under_way line (Seeking walk) ≡ None
 seeks_no_number None walk = refl
 seeks_no_number (Some (Create e image pages)) walk = refl
+seeks_no_number (Some (Shadow e image pages)) walk = refl
+seeks_no_number (Some (Fork shadow e pages)) walk = refl
 seeks_no_number (Some (Run e budget)) walk = refl
 seeks_no_number (Some (Resume e budget)) walk = refl
 seeks_no_number (Some line) walk = refl
@@ -65,6 +67,7 @@ seeks_no_number (Some line) walk = refl
 seeks_no_put : (line : Option Line) (walk : Walk) (page : ℕ) → HasPut line (Seeking walk) page → ⊥
 seeks_no_put None walk page put = put
 seeks_no_put (Some (Create e image pages)) walk page put = put
+seeks_no_put (Some (Shadow e image pages)) walk page put = put
 seeks_no_put (Some line) walk page put = put
 
 restarted_number : (space : Space) (line : Option Line) (under : Under) → number_under_way line (restarted space line under) ≡ number_under_way line under
@@ -85,7 +88,7 @@ restarted_removal space (Some (Run e budget)) (Running micro count) removed k = 
 restarted_removal space (Some (Resume e budget)) (Running micro count) removed k = k
 restarted_removal space line under removed k = k
 
-restarted_giving : (space : Space) (line : Option Line) (under : Under) (fence : Option Fence) → GivingStands line under fence → GivingStands line (restarted space line under) fence
+restarted_giving : (space : Space) (line : Option Line) (under : Under) (fence : Option Fence) → NumberFenceStands line under fence → NumberFenceStands line (restarted space line under) fence
 restarted_giving space line (Seeking walk) fence k = gives_none line (Seeking _) fence refl (none_given line (Seeking walk) fence refl k)
 restarted_giving space (Some (Run e budget)) (Running micro count) fence k = k
 restarted_giving space (Some (Resume e budget)) (Running micro count) fence k = k
@@ -106,6 +109,10 @@ module _ (setup : SetupParts) (bytes : ℕ → List ℕ) (rec : ℕ → Enclave)
   restarted_line line Idle k = tt
   restarted_line (Some (Unmap va)) (Removing page) k = tt
   restarted_line (Some (Create e image pages)) (Putting done) k = k
+  restarted_line (Some (Shadow e image pages)) (Putting done) k = k
+  restarted_line (Some (Fork shadow e pages)) (Putting done) k = k
+  restarted_line (Some (Run e budget)) (Breaking count) k = k
+  restarted_line (Some (Resume e budget)) (Breaking count) k = k
   restarted_line (Some (Destroy e)) Destroying k = k
   restarted_line line under k = elim k [ ]
 
@@ -198,7 +205,7 @@ module _ (digest_of : List ℕ → List ℕ) (room_stays : RoomStays) (w : World
     agrees = subst (λ f. FenceStands f (removals_by s.removals requester)) is (k.stands.translations.fences_stand.each requester)
 
     -- translations that the fence doesn't cover stay fresh
-    own_fresh : (entry : TlbEntry) → is_covered fence.space fence.vpn entry ≡ false → IsFresh w.setup s w.fences hart entry → IsFresh w.setup s fences' hart entry
+    own_fresh : (entry : TlbEntry) → is_covered fence.space fence.vpn entry ≡ false → IsFresh w.setup (enclave_at w.enclaves) s w.fences hart entry → IsFresh w.setup (enclave_at w.enclaves) s fences' hart entry
     own_fresh entry passed (inl host) = inl (record {
       mapping = host.mapping;
       is = host.is;
@@ -207,17 +214,18 @@ module _ (digest_of : List ℕ → List ℕ) (room_stays : RoomStays) (w : World
     })
     own_fresh entry passed (inr number) = inr (record { e = number.e; mapping = number.mapping; is = number.is; fresh = still number.fresh })
       where
-        still : MayUseNumber w.setup s w.fences hart number.e number.mapping → MayUseNumber w.setup s fences' hart number.e number.mapping
+        still : MayUseNumber w.setup (enclave_at w.enclaves) s w.fences hart number.e number.mapping
+            → MayUseNumber w.setup (enclave_at w.enclaves) s fences' hart number.e number.mapping
         still (inl there) = inl there
-        still (inr leaving) = inr (acked_leaving_own w.fences hart requester fence is posted_there few (inside hart below) number.e number.mapping
-            (subst (λ x. is_covered fence.space fence.vpn x ≡ false) number.is passed) leaving)
+        still (inr owed) = inr (acked_owed_own w.fences hart requester fence is posted_there few (inside hart below) number.e number.mapping
+            (subst (λ x. is_covered fence.space fence.vpn x ≡ false) number.is passed) owed)
 
-    giving : (other : ℕ) → GivingStands (hart_line w other) (under_at w.under other) (fence_of fences' other)
-    giving = everywhere (λ other. GivingStands (hart_line w other) (under_at w.under other) (fence_of fences' other)) requester
-        (subst (GivingStands (hart_line w requester) (under_at w.under requester)) (sym (acked_same w.fences hart requester fence is posted_there few (inside hart below)))
+    giving : (other : ℕ) → NumberFenceStands (hart_line w other) (under_at w.under other) (fence_of fences' other)
+    giving = everywhere (λ other. NumberFenceStands (hart_line w other) (under_at w.under other) (fence_of fences' other)) requester
+        (subst (NumberFenceStands (hart_line w requester) (under_at w.under requester)) (sym (acked_same w.fences hart requester fence is posted_there few (inside hart below)))
         (acked_gives (hart_line w requester) (under_at w.under requester) fence hart
-        (subst (GivingStands (hart_line w requester) (under_at w.under requester)) is (k.stands.translations.giving requester))))
-        (λ other differs. subst (GivingStands (hart_line w other) (under_at w.under other)) (sym (fence_of-set_other w.fences requester other _ differs)) (k.stands.translations.giving other))
+        (subst (NumberFenceStands (hart_line w requester) (under_at w.under requester)) is (k.stands.translations.giving requester))))
+        (λ other differs. subst (NumberFenceStands (hart_line w other) (under_at w.under other)) (sym (fence_of-set_other w.fences requester other _ differs)) (k.stands.translations.giving other))
 
     change : HostChange w hart w.ctl tlbs' fences' s (hart_line w) (under_at under')
     change = record {
@@ -229,26 +237,26 @@ module _ (digest_of : List ℕ → List ℕ) (room_stays : RoomStays) (w : World
           (restarted_removal fence.space (hart_line w hart) (under_at w.under hart) (removals_by s.removals hart) (k.stands.translations.removals hart));
       others = λ other differs. or_other w.tlbs hart other kept_entries [] differs;
       used = λ other there differs m. acked_used w.fences hart requester fence is posted_there few (inside hart below) s other m (inside other there) differs;
-      leaving = λ other there differs e. acked_leaving w.fences hart requester fence is posted_there few (inside hart below) other e (inside other there) differs;
-      giving = everywhere (λ other. GivingStands (hart_line w other) (under_at under' other) (fence_of fences' other)) hart
-          (subst (λ v. GivingStands (hart_line w hart) v (fence_of fences' hart)) (sym moves.under_change.here)
+      owed = λ other there differs e vpn. acked_owed w.fences hart requester fence is posted_there few (inside hart below) other e vpn (inside other there) differs;
+      giving = everywhere (λ other. NumberFenceStands (hart_line w other) (under_at under' other) (fence_of fences' other)) hart
+          (subst (λ v. NumberFenceStands (hart_line w hart) v (fence_of fences' hart)) (sym moves.under_change.here)
           (restarted_giving fence.space (hart_line w hart) (under_at w.under hart) (fence_of fences' hart) (giving hart)))
-          (λ other differs. subst (λ v. GivingStands (hart_line w other) v (fence_of fences' other)) (sym (moves.under_change.others other differs)) (giving other));
-      own = subst (All (IsFresh w.setup s fences' hart)) (sym (or_same w.tlbs hart kept_entries [] (subst (λ n. hart < n) (sym k.stands.translations.harts) below)))
-          (left_all (IsFresh w.setup s w.fences hart) (IsFresh w.setup s fences' hart) fence.space fence.vpn own_fresh (tlb_at w.tlbs hart) (k.stands.translations.fresh.entries hart));
+          (λ other differs. subst (λ v. NumberFenceStands (hart_line w other) v (fence_of fences' other)) (sym (moves.under_change.others other differs)) (giving other));
+      own = subst (All (IsFresh w.setup (enclave_at w.enclaves) s fences' hart)) (sym (or_same w.tlbs hart kept_entries [] (subst (λ n. hart < n) (sym k.stands.translations.harts) below)))
+          (left_all (IsFresh w.setup (enclave_at w.enclaves) s w.fences hart) (IsFresh w.setup (enclave_at w.enclaves) s fences' hart) fence.space fence.vpn own_fresh (tlb_at w.tlbs hart) (k.stands.translations.fresh.entries hart));
       lines = λ other differs. refl;
       unders = moves.under_change.others;
-      own_walk = subst (λ v. WalkingStands w.ctl (IsFresh w.setup s fences' hart) (walking w.setup.tables (enclave_at w.enclaves) (hart_line w hart) v)) (sym moves.under_change.here)
-          (restarted_walk w.setup.tables w.ctl (IsFresh w.setup s w.fences hart) (IsFresh w.setup s fences' hart) fence.space
+      own_walk = subst (λ v. WalkingStands w.ctl (IsFresh w.setup (enclave_at w.enclaves) s fences' hart) (walking w.setup.tables (enclave_at w.enclaves) (hart_line w hart) v)) (sym moves.under_change.here)
+          (restarted_walk w.setup.tables w.ctl (IsFresh w.setup (enclave_at w.enclaves) s w.fences hart) (IsFresh w.setup (enclave_at w.enclaves) s fences' hart) fence.space
           (λ entry other. own_fresh entry (other_uncovered fence.space fence.vpn entry other)) (enclave_at w.enclaves) (hart_line w hart) (under_at w.under hart)
           (k.stands.translations.fresh.walks hart));
     }
 
-    attacks : OnlyAttacksDiffer w.setup.zones w.ctl.off_chip w.ctl.mirror s.attacks w.owners s.number (hart_line w) (under_at under')
+    attacks : OnlyAttacksDiffer w.setup.zones w.ctl.off_chip w.ctl.mirror s.attacks w.owners (enclave_at w.enclaves) s.number (hart_line w) (under_at under')
     attacks = record {
       nodes = k.stands.attacks.nodes;
       guarded = k.stands.attacks.guarded;
-      live = k.stands.attacks.live;
+      made = k.stands.attacks.made;
       put = λ other p. everywhere (λ other. HasPut (hart_line w other) (under_at under' other) p → PageAgrees w.ctl.off_chip w.ctl.mirror s.attacks p) hart
           (λ put. k.stands.attacks.put hart p (restarted_put fence.space (hart_line w hart) (under_at w.under hart) p (subst (λ v. HasPut (hart_line w hart) v p) moves.under_change.here put)))
           (λ other differs put. k.stands.attacks.put other p (subst (λ v. HasPut (hart_line w other) v p) (moves.under_change.others other differs) put)) other;
@@ -261,6 +269,7 @@ module _ (digest_of : List ℕ → List ℕ) (room_stays : RoomStays) (w : World
       trees = k.trees;
       owners_agree = record { owner = k.stands.owners.owner; maps = k.stands.owners.maps };
       records = k.stands.records;
+      pages_agree = k.stands.pages;
       enclaves_agree = k.stands.enclaves;
       host = k.stands.host;
       attacks = attacks;

@@ -1,6 +1,6 @@
 -- The rows of the attacker's lines.
 use Rattle.std.proofs.Common.{◌≡◌, ℕ, ◌+◌, ◌-◌, ◌*◌, ◌<◌, ◌≤◌, leb, ltb, Bool, true, false, ◌&&◌, ◌||◌, if◌then◌else◌, List, [], ◌∷◌, ◌++◌, length, take, drop, slice_get, unwrap_or, Option, Some, None, option_map, refl, sym, ap, ◌∙◌, subst, arith, inl, inr, length-append, ◌⊎◌}
-use Rattle.std.specs.Prelude.{slice_set, Contains}
+use Rattle.std.specs.Prelude.{slice_set}
 use Rattle.std.specs.List.{All}
 use Rattle.std.specs.Option.{option_map_or}
 use Rattle.std.proofs.lemmas.Bool.{cases_Bool, eq-eqb, false≢true}
@@ -20,7 +20,7 @@ use Rattle.pl_history.specs.declared.answer.Answer.TheVariants as answer_is
 use Rattle.pl_history.specs.declared.answer.Entry.{Entry}
 use Rattle.pl_history.specs.declared.line.AttackLine.{AttackLine}
 use Rattle.pl_history.specs.declared.line.AttackLine.TheVariants as attack
-use Rattle.pl_history.specs.Attacking.{AllowedKept, AllowedWrote, Placed, latest_kept, overwritten_page, with_attack, written}
+use Rattle.pl_history.specs.Attacking.{AllowedKept, AllowedWrote, Placed, latest_kept, overwritten_page, written}
 use Rattle.pl_history.specs.History.{HistoryData, NamesPart, named_part, part_end}
 use Rattle.pl_history.specs.Legal.{Allowed, AllowedAttack, after, after_line, legal_state, line_at, of_attacker, of_hart}
 use Rattle.pl_history.specs.Monitor.{Attack, Monitor, Number, Progress, answer, is_host, script_of}
@@ -36,9 +36,10 @@ use Rattle.world_attack.proofs.WriteLemmas.{keeps_leave, writes_leave}
 use Rattle.world_machine.specs.declared.under.Under.TheVariants.{Idle}
 use Rattle.world_machine.specs.Answering.{with_entry}
 use Rattle.world_machine.specs.Attacking.{attacker_goes_on, attacker_waited, attacks}
-use Rattle.world_machine.specs.EnclavesAgree.{EnclavesAgree}
+use Rattle.world_machine.specs.EnclavesAgree.{EnclavesAgree, is_made}
 use Rattle.world_machine.specs.LinesUnderWay.{LineUnderWay}
 use Rattle.world_machine.specs.BytesAgree.{ByteAgrees, HasPut, HostBytesAgree, covers, is_attacked}
+use Rattle.world_machine.specs.PagesAgree.{PagesAgree}
 use Rattle.world_machine.specs.RecordsAgree.{OwnersAgree, RecordsAgree, is_begun, owner_of}
 use Rattle.world_machine.specs.Standing.{Kept, state_of}
 use Rattle.world_machine.specs.Worlds.{WorldData, answered_at, attacker_line, hart_line, under_at}
@@ -279,18 +280,20 @@ module _ (digest_of : List ℕ → List ℕ) (room_stays : RoomStays) (w : World
         trees = off_chip_is_free digest_of w.ctl y.off_chip k.trees leaves.size;
         owners_agree = owners_by changed;
         records = subst (RecordsAgree (enclave_at w.enclaves)) (sym (number_by changed)) k.stands.records;
+        pages_agree = subst (PagesAgree w.setup (enclave_at w.enclaves)) (sym (number_by changed)) k.stands.pages;
         enclaves_agree = subst (EnclavesAgree w.setup (page_bytes w.ctl.mirror) w.owners (enclave_at w.enclaves)) (sym (number_by changed)) k.stands.enclaves;
         host = host_by changed;
-        attacks = attacks_frame w.setup.zones w.ctl.off_chip w.ctl.mirror y.off_chip w.ctl.mirror s.attacks (state_by changed).attacks w.owners w.owners s.number (state_by changed).number
+        attacks = attacks_frame w.setup.zones w.ctl.off_chip w.ctl.mirror y.off_chip w.ctl.mirror s.attacks (state_by changed).attacks w.owners w.owners
+            (enclave_at w.enclaves) (enclave_at w.enclaves) s.number (state_by changed).number
             (hart_line w) (line_after w answered') (under_at w.under) (under_at w.under) actor 0 (byte_by changed refl)
             (record {
               guarded = λ page is. is;
-              lives = λ f other. ap (λ (numbers : ℕ → Number). (numbers f).live) (number_by changed);
-              pages = λ f other. ap (λ (numbers : ℕ → Number). (numbers f).pages) (number_by changed);
+              made = λ f other. ap (λ (numbers : ℕ → Number). is_made (numbers f)) (number_by changed);
+              pages = λ f other. refl;
               lines = λ hart other. ap (slice_get (script_of w.setup hart)) (answered_change.others hart other);
               unders = λ hart other. refl;
-              live_own = λ page is live i few. byte_by changed refl (4096 * page + i)
-                  (k.stands.attacks.live page 0 (subst (λ (numbers : ℕ → Number). Contains (numbers 0).pages page) (number_by changed) is) (ap (λ (numbers : ℕ → Number). (numbers 0).live) (sym (number_by changed)) ∙ live) i few);
+              made_own = λ page is made i few. byte_by changed refl (4096 * page + i)
+                  (k.stands.attacks.made page 0 is (ap (λ (numbers : ℕ → Number). is_made (numbers 0)) (sym (number_by changed)) ∙ made) i few);
               put_own = λ page is. absurd (idle_put_none _ page (subst (λ u. HasPut (line_after w answered' actor) u page) idle is));
             })
             k.stands.attacks;
@@ -313,6 +316,7 @@ module _ (digest_of : List ℕ → List ℕ) (room_stays : RoomStays) (w : World
     trees = k.trees;
     owners_agree = record { owner = k.stands.owners.owner; maps = k.stands.owners.maps };
     records = k.stands.records;
+    pages_agree = k.stands.pages;
     enclaves_agree = k.stands.enclaves;
     host = k.stands.host;
     attacks = attacks_live w actor (answer s actor) w.under answered' digest_of k refl (λ e. refl) (λ e. refl)

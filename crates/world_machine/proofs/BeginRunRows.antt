@@ -1,5 +1,5 @@
 -- The rows that begin `run` and `resume`.
-use Rattle.std.proofs.Common.{◌≡◌, ◌≢◌, ℕ, ◌<◌, Bool, true, false, List, length, unwrap_or, Option, Some, None, refl, sym, ap, ◌∙◌, subst, arith}
+use Rattle.std.proofs.Common.{◌≡◌, ◌≢◌, ℕ, ◌<◌, ◌||◌, Bool, true, false, List, length, unwrap_or, Option, Some, None, refl, sym, ap, ◌∙◌, subst, arith}
 use Rattle.std.specs.Prelude.{slice_set}
 use Rattle.std.proofs.lemmas.Bool.{false≢true}
 use Rattle.std.proofs.lemmas.Bool.Decides.{nat_tests}
@@ -7,7 +7,7 @@ use Rattle.pl_base.specs.declared.number.EncNo.{EncNo}
 use Rattle.pl_base.specs.declared.refusal.No.{No}
 use Rattle.pl_base.specs.declared.state.State.{State}
 use Rattle.pl_base.specs.declared.state.State.TheVariants as state_is
-use Rattle.pl_base.specs.States.{is_free, run_refusal}
+use Rattle.pl_base.specs.States.{is_free, is_sealed, is_under_way, run_refusal}
 use Rattle.rv_alone.specs.Flat.{Status, on}
 use Rattle.rv_hart.specs.declared.walks.Micro.TheVariants.{Fetching}
 use Rattle.rv_hart.specs.declared.walks.Walk.TheVariants.{Start}
@@ -18,35 +18,39 @@ use Rattle.mon_enclave.specs.Records.{enclave_at, free_enclave, with_enclave}
 use Rattle.mon_life.specs.Running.{may_run, run_begun, run_refusal_of}
 use Rattle.pl_history.specs.declared.answer.Answer.TheVariants as answer_is
 use Rattle.pl_history.specs.declared.line.Line.{Line}
-use Rattle.pl_history.specs.declared.line.Line.TheVariants.{Create, Run, Resume, Destroy}
+use Rattle.pl_history.specs.declared.line.Line.TheVariants.{Run, Resume}
 use Rattle.pl_history.specs.declared.setup.SetupParts.{SetupParts}
 use Rattle.pl_history.specs.Legal.{AllowedAnswer, after_answer}
 use Rattle.pl_history.specs.Monitor.{Monitor, Number, answer, begin}
 use Rattle.pl_history.specs.Rules.{is_line}
 use Rattle.pl_history.specs.Running.{entered}
 use Rattle.world_attack.specs.Room.{RoomStays}
-use Rattle.world_machine.specs.declared.under.Under.{Under}
-use Rattle.world_machine.specs.declared.under.Under.TheVariants.{Idle, Destroying, Putting, Running}
+use Rattle.world_machine.specs.declared.under.Under.TheVariants.{Idle, Running}
 use Rattle.world_machine.specs.Answering.{entry_now, with_entry}
 use Rattle.world_machine.specs.BytesAgree.{HasPut}
 use Rattle.world_machine.specs.EnclavesAgree.{EnclaveStands, EnclavesAgree, StatusStands}
 use Rattle.world_machine.specs.LinesUnderWay.{IsRunning, LineUnderWay, number_under_way}
 use Rattle.world_machine.specs.Making.{begins_unless}
+use Rattle.world_machine.specs.PagesAgree.{PagesAgree}
 use Rattle.world_machine.specs.RecordsAgree.{LiveAgrees, RecordAgrees, RecordsAgree, RetiredAgrees, is_begun}
 use Rattle.world_machine.specs.Running.{begin_run}
 use Rattle.world_machine.specs.Standing.{Kept, state_of, written_page}
 use Rattle.world_machine.specs.TranslationsAgree.{IsFresh, TranslationsStand, WalkingStands, walking}
 use Rattle.world_machine.specs.Worlds.{WorldData, answered_at, hart_line, under_at}
+use Rattle.world_machine.proofs.ForkedNumbers.{childless}
 use Rattle.world_machine.proofs.Frames.{Frame, enclaves_frame, line_frame, records_frame}
 use Rattle.world_machine.proofs.LineKinds.{begun_line}
 use Rattle.world_machine.proofs.LineMoves.{LineMoves}
 use Rattle.world_machine.proofs.LineTranslations.{isnt_waiting}
 use Rattle.world_machine.proofs.Lists.{ChangedAt, changed_set, everywhere, if_other, if_same}
-use Rattle.world_machine.proofs.QuietRows.{answers_kept, attacks_live}
+use Rattle.world_machine.proofs.OneNumber.{attacks_stay}
+use Rattle.world_machine.proofs.PagesStay.{pages_changed, pages_same}
+use Rattle.world_machine.proofs.QuietRows.{answers_kept}
 use Rattle.world_machine.proofs.RowKept.{line_after, row_kept}
 use Rattle.world_machine.proofs.SentOut.{retired_few}
 use Rattle.world_machine.proofs.SetupFacts.{line_forms, used_there}
 use Rattle.world_machine.proofs.TranslationFrames.{KeepsSpace, SpacesStay, TablePagesStay, entries_stay, same_keeps, translations_stay, written_stay}
+use Rattle.world_machine.proofs.UnderWay.{under_way_busy}
 
 -- `run`, or `resume` where it isn't the first run
 abbrev pub run_of : Bool → EncNo → ℕ → Line
@@ -103,21 +107,13 @@ ready_retired state_is.Fresh retired n is agrees = agrees
 ready_retired state_is.Paused retired n is agrees = agrees
 ready_retired state retired n is agrees = absurd (false≢true is)
 
--- a number that is under way can't be run
-busy : (setup : SetupParts) (bytes : ℕ → List ℕ) (rec : ℕ → Enclave) (number : ℕ → Number) (hart e : ℕ) (line : Option Line) (under : Under)
-    → LineUnderWay setup bytes rec number hart line under → number_under_way line under ≡ Some e → is_ready (rec e).state ≡ false
-busy setup bytes rec number hart e (Some (Create f image pages)) (Putting done) k is =
-    subst (λ g. is_ready (rec g).state ≡ false) (same f.0 e is) (ap is_ready k.state)
-  where
-    same : (f g : ℕ) → Some f ≡ Some g → f ≡ g
-    same f g is = ap (λ o. unwrap_or o f) is
-busy setup bytes rec number hart e (Some (Run f budget)) (Running micro count) k is =
-    subst (λ g. is_ready (rec g).state ≡ false) (ap (λ o. unwrap_or o f.0) is) (ap is_ready k.state)
-busy setup bytes rec number hart e (Some (Resume f budget)) (Running micro count) k is =
-    subst (λ g. is_ready (rec g).state ≡ false) (ap (λ o. unwrap_or o f.0) is) (ap is_ready k.state)
-busy setup bytes rec number hart e (Some (Destroy f)) Destroying k is =
-    subst (λ g. is_ready (rec g).state ≡ false) (ap (λ o. unwrap_or o f.0) is) (ap is_ready k)
-busy setup bytes rec number hart e line under k is = cc
+ready_rests : (state : State) → is_ready state ≡ true → is_under_way state ≡ false
+ready_rests state_is.Fresh is = refl
+ready_rests state_is.Paused is = refl
+ready_rests state is = absurd (false≢true is)
+
+ready_unsealed : (state : State) → is_ready state ≡ true → state ≢ state_is.Sealed
+ready_unsealed state is sealed = false≢true (sym (ap is_ready sealed) ∙ is)
 
 -- what a run's line says in the monitor
 refused_run : (setup : SetupParts) (s : Monitor) (first : Bool) (e : EncNo) (budget : ℕ) (cause : No) → run_refusal (may_run first) (s.number e.0).state ≡ Some cause
@@ -215,7 +211,6 @@ module _ (digest_of : List ℕ → List ℕ) (room_stays : RoomStays) (w : World
       live = live;
       hart = refl;
       image = agrees.image;
-      pages = agrees.pages;
       given = agrees.given;
       parent = agrees.parent;
       sent = agrees.sent;
@@ -227,25 +222,21 @@ module _ (digest_of : List ℕ → List ℕ) (room_stays : RoomStays) (w : World
     now_stands = record {
       image = x.image;
       image_is = x.image_is;
-      count = x.count;
-      own = x.own;
-      apart = x.apart;
-      owned = x.owned;
-      parent = x.parent;
-      spares = x.spares;
-      given = x.given;
-      now = x.now;
-      alone_is = x.alone_is;
-      context = x.context;
-      received = x.received;
-      out = x.out;
-      status = ready_status r.state x.now.status ready x.status;
-      aligned = x.aligned;
-      taken_few = x.taken_few;
-      shown_few = x.shown_few;
-      shown = x.shown;
-      pages = x.pages;
-      start = λ not_live alive. absurd (false≢true (sym not_live ∙ live));
+      held = record { count = x.held.count; apart = x.held.apart; owned = x.held.owned };
+      state = record {
+        now = x.state.now;
+        alone_is = x.state.alone_is;
+        context = x.state.context;
+        received = x.state.received;
+        out = x.state.out;
+        status = ready_status r.state x.state.now.status ready x.state.status;
+        aligned = x.state.aligned;
+        taken_few = x.state.taken_few;
+        shown_few = x.state.shown_few;
+        shown = x.state.shown;
+        pages = λ made. x.state.pages (ap (λ b. b || is_sealed n.state) live);
+        start = λ not_live alive. absurd (false≢true (sym not_live ∙ live));
+      };
     }
 
     frame : Frame w.setup e.0 (enclave_at w.enclaves) (enclave_at enclaves') s.number s'.number (written_page w) (written_page w) w.owners w.owners
@@ -255,6 +246,7 @@ module _ (digest_of : List ℕ → List ℕ) (room_stays : RoomStays) (w : World
       owned = λ f page other is. is;
       own_bytes = λ f page other is. refl;
       table_bytes = λ f level other few low. refl;
+      childless = λ f shadow other. childless digest_of w k e.0 (ready_unsealed r.state ready) f shadow;
     }
 
     same_retired : r.retired ≡ n.retired
@@ -286,31 +278,36 @@ module _ (digest_of : List ℕ → List ℕ) (room_stays : RoomStays) (w : World
         (λ used. subst (λ y. EnclaveStands w.setup (written_page w) w.owners e.0 y (s'.number e.0)) (sym change.here)
         (subst (EnclaveStands w.setup (written_page w) w.owners e.0 now) (sym number_here) now_stands))
 
+    pages_agree : PagesAgree w.setup (enclave_at enclaves') s'.number
+    pages_agree = pages_changed w.setup e.0 (enclave_at w.enclaves) (enclave_at enclaves') s.number s'.number now number_now change.others number_other
+        change.here number_here refl k.stands.pages
+        (pages_same w.setup s.number r now n number_now
+        (record { image = refl; sent = refl; retired = refl; kinds = refl; left = refl; parent = refl; pages = refl; spares = refl })
+        (k.stands.pages e.0))
+
     -- a number that is under way isn't the one that begins
     not_theirs : (other f : ℕ) → number_under_way (hart_line w other) (under_at w.under other) ≡ Some f → f ≢ e.0
     not_theirs other f is same =
-        false≢true (sym (busy w.setup (written_page w) (enclave_at w.enclaves) s.number other f (hart_line w other) (under_at w.under other) (k.stands.lines other) is)
-        ∙ ap (λ g. is_ready (enclave_at w.enclaves g).state) same ∙ ready)
+        false≢true (sym (ready_rests r.state ready) ∙ ap (λ g. is_under_way (enclave_at w.enclaves g).state) (sym same)
+        ∙ under_way_busy w.setup (written_page w) (enclave_at w.enclaves) s.number other f (hart_line w other) (under_at w.under other) (k.stands.lines other) is)
 
     -- ---- translations
 
-    spaces : SpacesStay digest_of w k w.ctl (enclave_at enclaves') w.owners s'
+    spaces : SpacesStay digest_of w k w.ctl (enclave_at enclaves') s'
     spaces = record {
       space = refl;
       removals = refl;
-      numbers = everywhere (λ f. (s.number f).live ≡ true → KeepsSpace (s.number f) (s'.number f)) e.0
-          (λ was. subst (KeepsSpace n) (sym number_here) (record { live = was; image = refl; pages = refl }))
-          (λ f other was. same_keeps (s.number f) (s'.number f) (number_other f other) was);
-      records = records_agree;
-      enclaves = enclaves_agree;
+      numbers = everywhere (λ f. (s.number f).live ≡ true → KeepsSpace (enclave_at w.enclaves f) (enclave_at enclaves' f) (s'.number f)) e.0
+          (λ was. subst (λ y. KeepsSpace r y (s'.number e.0)) (sym change.here) (subst (KeepsSpace r now) (sym number_here) (record { live = was; image = refl; pages = refl })))
+          (λ f other was. same_keeps (enclave_at w.enclaves f) (enclave_at enclaves' f) (s.number f) (s'.number f) (change.others f other) (number_other f other) was);
     }
 
-    table_pages : TablePagesStay digest_of w k w.ctl (enclave_at enclaves') w.owners s'
-    table_pages = written_stay digest_of w k (enclave_at enclaves') w.owners s' (everywhere (λ f. (s.number f).live ≡ false → (s'.number f).live ≡ false) e.0
+    table_pages : TablePagesStay digest_of w k w.ctl (enclave_at enclaves') s'
+    table_pages = written_stay digest_of w k (enclave_at enclaves') s' (everywhere (λ f. (s.number f).live ≡ false → (s'.number f).live ≡ false) e.0
         (λ was. absurd (false≢true (sym was ∙ live))) (λ f other was. ap (λ (m : Number). m.live) (number_other f other) ∙ was))
 
     translations : TranslationsStand w.setup w.ctl w.tlbs w.fences (enclave_at enclaves') s' (line_after w w.answered) (under_at (slice_set w.under hart (Running (Fetching Start) 0)))
-    translations = translations_stay digest_of w k w.ctl (enclave_at enclaves') w.owners s' spaces table_pages hart w.tlbs
+    translations = translations_stay digest_of w k w.ctl (enclave_at enclaves') s' spaces table_pages hart w.tlbs
         (line_after w w.answered) (under_at (slice_set w.under hart (Running (Fetching Start) 0))) (record {
           lines = λ other differs. refl;
           unders = moves.under_change.others;
@@ -319,10 +316,10 @@ module _ (digest_of : List ℕ → List ℕ) (room_stays : RoomStays) (w : World
           tlbs = λ other differs. refl;
           waited_none = ap isnt_waiting idle;
           waits_none = ap isnt_waiting moves.under_change.here;
-          entries = entries_stay digest_of w k w.ctl (enclave_at enclaves') w.owners s' spaces hart;
-          walk = subst (λ u. WalkingStands w.ctl (IsFresh w.setup s' w.fences hart) (walking w.setup.tables (enclave_at enclaves') (hart_line w hart) u)) (sym moves.under_change.here)
-              (subst (λ l. WalkingStands w.ctl (IsFresh w.setup s' w.fences hart) (walking w.setup.tables (enclave_at enclaves') l (Running (Fetching Start) 0))) (sym here)
-              (running_walk w.ctl (IsFresh w.setup s' w.fences hart) w.setup.tables (enclave_at enclaves') first e budget));
+          entries = entries_stay digest_of w k w.ctl (enclave_at enclaves') s' spaces hart;
+          walk = subst (λ u. WalkingStands w.ctl (IsFresh w.setup (enclave_at enclaves') s' w.fences hart) (walking w.setup.tables (enclave_at enclaves') (hart_line w hart) u)) (sym moves.under_change.here)
+              (subst (λ l. WalkingStands w.ctl (IsFresh w.setup (enclave_at enclaves') s' w.fences hart) (walking w.setup.tables (enclave_at enclaves') l (Running (Fetching Start) 0))) (sym here)
+              (running_walk w.ctl (IsFresh w.setup (enclave_at enclaves') s' w.fences hart) w.setup.tables (enclave_at enclaves') first e budget));
         })
 
     begun_kept : Kept digest_of (begins_unless None (record w { enclaves = enclaves' }) hart (Running (Fetching Start) 0))
@@ -332,14 +329,20 @@ module _ (digest_of : List ℕ → List ℕ) (room_stays : RoomStays) (w : World
       trees = k.trees;
       owners_agree = record { owner = k.stands.owners.owner; maps = k.stands.owners.maps };
       records = records_agree;
+      pages_agree = pages_agree;
       enclaves_agree = enclaves_agree;
       host = k.stands.host;
-      attacks = attacks_live w hart s' (slice_set w.under hart (Running (Fetching Start) 0)) w.answered digest_of k refl
-          (everywhere (λ f. (s'.number f).live ≡ (s.number f).live) e.0 (ap (λ (m : Number). m.live) number_here) (λ f other. ap (λ (m : Number). m.live) (number_other f other)))
-          (everywhere (λ f. (s'.number f).pages ≡ (s.number f).pages) e.0 (ap (λ (m : Number). m.pages) number_here) (λ f other. ap (λ (m : Number). m.pages) (number_other f other)))
-          (λ other differs. refl) moves.under_change.others
-          (λ page put. absurd (running_put first e budget page
-          (subst (λ l. HasPut l (Running (Fetching Start) 0) page) here (subst (λ u. HasPut (hart_line w hart) u page) moves.under_change.here put))));
+      attacks = attacks_stay digest_of w k hart e.0 (enclave_at enclaves') s' w.owners (slice_set w.under hart (Running (Fetching Start) 0)) w.answered (record {
+        attacks = refl;
+        records = change.others;
+        numbers = number_other;
+        guarded = λ page is. is;
+        made = λ made. (ap (λ b. b || is_sealed n.state) live, ap (λ (y : Enclave). y.pages) change.here);
+        lines = λ other differs. refl;
+        unders = moves.under_change.others;
+        put = λ page put. running_put first e budget page
+            (subst (λ l. HasPut l (Running (Fetching Start) 0) page) here (subst (λ u. HasPut (hart_line w hart) u page) moves.under_change.here put));
+      });
       other_lines = λ other differs. line_frame w.setup e.0 (enclave_at w.enclaves) (enclave_at enclaves') s.number s'.number (written_page w) (written_page w) w.owners w.owners frame
           k.stands.enclaves (λ f used. subst (λ m. f < m) k.sizes.numbers (used_there w.enclaves f used)) other (hart_line w other) (under_at w.under other)
           (not_theirs other)

@@ -23,8 +23,8 @@ use Rattle.rv_alone.specs.Flat.{Image as FlatImage, Flat, Page, Status, on, ende
 use Rattle.rv_alone.specs.Alone.{Outcome, trap, wait, full, next, next_of, context_of, with_context, acts, loads, stores, calls, receives, sends, exits, runs, advance_by, alone}
 use Rattle.pl_history.specs.Monitor.{flat_image, flat_page}
 use Rattle.world_machine.specs.ByteBounds.{AreBytes, AreImageBytes}
-use Rattle.world_machine.specs.Pages.{flat_pages, located}
-use Rattle.world_machine.proofs.FlatPages.{joined, located_at, page_joined}
+use Rattle.world_machine.specs.Pages.{flat_pages}
+use Rattle.world_machine.proofs.FlatPages.{joined, located, located_at, page_joined}
 use Rattle.world_machine.proofs.WordParts.{byte_below, bytes_within}
 
 -- each page's numbers are bytes

@@ -1,17 +1,19 @@
--- The machine's refusal of `create` is the abstract monitor's.
-use Rattle.std.proofs.Common.{◌≡◌, ℕ, eqb, ltb, Bool, true, false, not, if◌then◌else◌, List, [], ◌∷◌, length, slice_get, unwrap_or, Option, Some, None, option_map, refl, sym, ap, ◌∙◌, inl, inr}
+-- The machine's refusals of `create`, `shadow` and `fork` are the abstract monitor's.
+use Rattle.std.proofs.Common.{◌≡◌, ℕ, eqb, ltb, Bool, true, false, not, if◌then◌else◌, List, [], ◌∷◌, ◌++◌, length, slice_get, unwrap_or, Option, Some, None, option_map, refl, sym, ap, ◌∙◌, inl, inr}
+use Rattle.std.specs.Prelude.{nat_lt}
 use Rattle.std.specs.List.{find}
 use Rattle.std.specs.Option.{option_map_or}
 use Rattle.std.proofs.lemmas.Bool.{cases_Bool, eqb-true}
 use Rattle.pl_base.specs.declared.refusal.No.{No}
-use Rattle.pl_base.specs.declared.refusal.No.TheVariants.{Exists, Count, Twice, NotYours, StillMapped, Barred}
-use Rattle.pl_base.specs.Pages.{first_twice}
+use Rattle.pl_base.specs.declared.refusal.No.TheVariants.{Exists, Count, Twice, NotYours, StillMapped, Barred, NoEnclave, TooMany}
+use Rattle.pl_base.specs.Pages.{first_twice, most_spares}
 use Rattle.pl_base.specs.Refusals.{first_refusal, refuse}
-use Rattle.pl_base.specs.States.{is_free}
+use Rattle.pl_base.specs.States.{is_free, is_sealed}
 use Rattle.mon_enclave.specs.declared.enclave.Enclave.{Enclave}
 use Rattle.mon_enclave.specs.Records.{enclave_at}
 use Rattle.mon_image.specs.declared.image.Image.{Image}
 use Rattle.mon_life.specs.Making as machine
+use Rattle.mon_shadow.specs.Forking.{fork_refusal_of}
 use Rattle.mon_owner.specs.declared.owners.Owner.{Owner as Kept}
 use Rattle.mon_owner.specs.declared.owners.Owner.TheVariants as kept
 use Rattle.mon_owner.specs.Owners.{is_mapped, owner_at}
@@ -23,7 +25,7 @@ use Rattle.pl_history.proofs.Refusals.{first_none, named_none, refuse_none}
 use Rattle.world_machine.specs.Making.{image_of}
 use Rattle.world_machine.specs.RecordsAgree.{OwnersAgree, owner_of}
 
-find_same : (p q : ℕ → Bool) (xs : List ℕ) → ((x : ℕ) → p x ≡ q x) → find p xs ≡ find q xs
+pub find_same : (p q : ℕ → Bool) (xs : List ℕ) → ((x : ℕ) → p x ≡ q x) → find p xs ≡ find q xs
 find_same p q [] same = refl
 find_same p q (x ∷ xs) same = ap (λ b. if b then Some x else find p xs) (same x) ∙ ap (λ o. if q x then Some x else o) (find_same p q xs same)
 
@@ -56,20 +58,23 @@ pub count_same : (o : Option Image) → length (unwrap_or o (record { entry = 0;
 count_same None = refl
 count_same (Some image) = refl
 
--- causes that differ only behind one that holds
-causes_same : (a b c d e e' f : Option No) → (d ≡ None → e ≡ e') → first_refusal (a ∷ b ∷ c ∷ d ∷ e ∷ f ∷ []) ≡ first_refusal (a ∷ b ∷ c ∷ d ∷ e' ∷ f ∷ [])
-causes_same (Some x) b c d e e' f same = refl
-causes_same None (Some x) c d e e' f same = refl
-causes_same None None (Some x) d e e' f same = refl
-causes_same None None None (Some x) e e' f same = refl
-causes_same None None None None e e' f same = ap (λ o. first_refusal (o ∷ f ∷ [])) (same refl)
+-- causes behind the first
+pub behind : (x : Option No) (later later' : List (Option No)) → first_refusal later ≡ first_refusal later' → first_refusal (x ∷ later) ≡ first_refusal (x ∷ later')
+behind (Some cause) later later' same = refl
+behind None later later' same = same
+
+-- a cause that differs only where the one before it holds
+behind_one : (x y y' : Option No) (later : List (Option No)) → (x ≡ None → y ≡ y') → first_refusal (x ∷ y ∷ later) ≡ first_refusal (x ∷ y' ∷ later)
+behind_one (Some cause) y y' later same = refl
+behind_one None y y' later same = ap (λ o. first_refusal (o ∷ later)) (same refl)
 
 not_some : (o : Option ℕ) → option_map NotYours o ≡ None → o ≡ None
 not_some None none = refl
 not_some (Some x) none = cc
 
-module _ (setup : SetupParts) (owners : List Kept) (enclaves : List Enclave) (s : Monitor) (agree : OwnersAgree owners s) (e image : ℕ) (pages : List ℕ)
-    (state : (s.number e).state ≡ (enclave_at enclaves e).state) where
+-- ---- pages that can't be taken
+
+module _ (setup : SetupParts) (owners : List Kept) (s : Monitor) (agree : OwnersAgree owners s) (pages : List ℕ) where
   not_host_same : machine.first_not_host owners pages ≡ monitor.first_not_host s pages
   not_host_same = find_same _ _ pages (λ page. ap not (host_same (slice_get owners page) ∙ ap is_host (sym (agree.owner page))))
 
@@ -77,20 +82,42 @@ module _ (setup : SetupParts) (owners : List Kept) (enclaves : List Enclave) (s 
   first_mapped_same = find_where (λ page. not (machine.is_host (owner_at owners page))) (λ page. is_mapped (owner_at owners page)) (λ page. ltb 0 (maps_of s page)) pages
       (λ page host. mapped_same (slice_get owners page) (maps_of s page) (agree.maps page) host)
 
-  pub refusal_same : machine.create_refusal_of owners enclaves (pmp_of setup) (length (image_of setup image).pages) e pages ≡ monitor.create_refusal setup s e image pages
-  refusal_same =
-      let twice : Option No = option_map Twice (first_twice pages) in
+  pub page_refusals_same : (later : List (Option No))
+      → first_refusal (machine.page_refusals owners (pmp_of setup) pages ++ later) ≡ first_refusal (monitor.page_refusals setup s pages ++ later)
+  page_refusals_same later =
       let barred : Option No = option_map Barred (monitor.first_barred setup pages) in
-      let hosts : Option No = option_map NotYours (machine.first_not_host owners pages) in
-      let mapped : Option No = option_map StillMapped (monitor.first_mapped s pages) in
-      let count : Option No = refuse (not (eqb (length pages) (length (image_of setup image).pages))) Count in
-      causes_same (refuse (not (is_free (enclave_at enclaves e).state)) Exists) count twice hosts (option_map StillMapped (machine.first_mapped owners pages)) mapped barred
+      behind_one (option_map NotYours (machine.first_not_host owners pages)) (option_map StillMapped (machine.first_mapped owners pages))
+      (option_map StillMapped (monitor.first_mapped s pages)) (barred ∷ later)
       (λ none. ap (option_map StillMapped) (first_mapped_same (not_some (machine.first_not_host owners pages) none)))
-      ∙ ap (λ st. first_refusal (refuse (not (is_free st)) Exists ∷ count ∷ twice ∷ hosts ∷ mapped ∷ barred ∷ [])) (sym state)
-      ∙ ap (λ n. first_refusal (refuse (not (is_free (s.number e).state)) Exists ∷ refuse (not (eqb (length pages) n)) Count ∷ twice ∷ hosts ∷ mapped ∷ barred ∷ []))
+      ∙ ap (λ o. first_refusal (option_map NotYours o ∷ option_map StillMapped (monitor.first_mapped s pages) ∷ barred ∷ later)) not_host_same
+
+  -- ---- `create` and `shadow`
+
+  pub refusal_same : (enclaves : List Enclave) (e image : ℕ) → (s.number e).state ≡ (enclave_at enclaves e).state
+      → machine.create_refusal_of owners enclaves (pmp_of setup) (length (image_of setup image).pages) e pages ≡ monitor.create_refusal setup s e image pages
+  refusal_same enclaves e image state =
+      let twice : Option No = option_map Twice (first_twice pages) in
+      let free : Option No = refuse (not (is_free (enclave_at enclaves e).state)) Exists in
+      let count : Option No = refuse (not (eqb (length pages) (length (image_of setup image).pages))) Count in
+      behind free _ _ (behind count _ _ (behind twice (machine.page_refusals owners (pmp_of setup) pages) (monitor.page_refusals setup s pages) (page_refusals_same [])))
+      ∙ ap (λ st. first_refusal (refuse (not (is_free st)) Exists ∷ count ∷ twice ∷ monitor.page_refusals setup s pages)) (sym state)
+      ∙ ap (λ n. first_refusal (refuse (not (is_free (s.number e).state)) Exists ∷ refuse (not (eqb (length pages) n)) Count ∷ twice ∷ monitor.page_refusals setup s pages))
       (count_same (slice_get setup.images image))
-      ∙ ap (λ o. first_refusal (refuse (not (is_free (s.number e).state)) Exists ∷ refuse (not (eqb (length pages) (monitor.image_page_count setup image))) Count ∷ twice
-      ∷ option_map NotYours o ∷ mapped ∷ barred ∷ [])) not_host_same
+
+  -- ---- `fork`
+
+  pub fork_refusal_same : (enclaves : List Enclave) (shadow e : ℕ) → (s.number shadow).state ≡ (enclave_at enclaves shadow).state
+      → (s.number e).state ≡ (enclave_at enclaves e).state
+      → fork_refusal_of owners enclaves (pmp_of setup) shadow e pages ≡ monitor.fork_refusal setup s shadow e pages
+  fork_refusal_same enclaves shadow e shadow_state state =
+      let many : Option No = refuse (nat_lt most_spares (length pages)) TooMany in
+      let twice : Option No = option_map Twice (first_twice pages) in
+      let sealed : Option No = refuse (not (is_sealed (enclave_at enclaves shadow).state)) NoEnclave in
+      let free : Option No = refuse (not (is_free (enclave_at enclaves e).state)) Exists in
+      behind sealed _ _ (behind free _ _ (behind twice (machine.page_refusals owners (pmp_of setup) pages ++ many ∷ [])
+      (monitor.page_refusals setup s pages ++ many ∷ []) (page_refusals_same (many ∷ []))))
+      ∙ (λ i. first_refusal (refuse (not (is_sealed (sym shadow_state i))) NoEnclave ∷ refuse (not (is_free (sym state i))) Exists
+      ∷ twice ∷ (monitor.page_refusals setup s pages ++ many ∷ [])))
 
 -- ---- where nothing refuses it
 
@@ -107,5 +134,21 @@ may_create setup s e image pages none =
     record {
       free = refuse_none (is_free (s.number e).state) Exists first.0;
       count = eqb-true _ _ (refuse_none (eqb (length pages) (monitor.image_page_count setup image)) Count second.0);
+      apart = named_none Twice (first_twice pages) third.0;
+    }
+
+pub record MayFork (s : Monitor) (shadow e : ℕ) (pages : List ℕ) : Type 0 where
+  pub sealed : is_sealed (s.number shadow).state ≡ true
+  pub free : is_free (s.number e).state ≡ true
+  pub apart : first_twice pages ≡ None
+
+pub may_fork : (setup : SetupParts) (s : Monitor) (shadow e : ℕ) (pages : List ℕ) → monitor.fork_refusal setup s shadow e pages ≡ None → MayFork s shadow e pages
+may_fork setup s shadow e pages none =
+    let first = first_none (refuse (not (is_sealed (s.number shadow).state)) NoEnclave) _ none in
+    let second = first_none (refuse (not (is_free (s.number e).state)) Exists) _ first.1 in
+    let third = first_none (option_map Twice (first_twice pages)) _ second.1 in
+    record {
+      sealed = refuse_none (is_sealed (s.number shadow).state) NoEnclave first.0;
+      free = refuse_none (is_free (s.number e).state) Exists second.0;
       apart = named_none Twice (first_twice pages) third.0;
     }

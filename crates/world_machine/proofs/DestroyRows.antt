@@ -1,5 +1,5 @@
 -- The row that begins `destroy`: it is refused, or the number is dying, and the hart waits until all others have dropped its translations.
-use Rattle.std.proofs.Common.{◌≡◌, ◌≢◌, ℕ, ◌<◌, true, false, List, [], length, Option, Some, None, refl, sym, ap, ◌∙◌, subst, length-set}
+use Rattle.std.proofs.Common.{◌≡◌, ◌≢◌, ℕ, ◌<◌, false, List, [], length, Option, Some, None, refl, sym, ap, ◌∙◌, subst, length-set}
 use Rattle.std.specs.Prelude.{slice_set}
 use Rattle.std.specs.List.{All}
 use Rattle.std.proofs.lemmas.Bool.{false≢true}
@@ -7,6 +7,7 @@ use Rattle.pl_base.specs.HartSet.{space_of_number}
 use Rattle.pl_base.specs.States.{destroy_refusal, is_free, is_under_way}
 use Rattle.pl_base.specs.declared.number.EncNo.{EncNo}
 use Rattle.pl_base.specs.declared.refusal.No.{No}
+use Rattle.pl_base.specs.declared.refusal.No.TheVariants.{NoEnclave}
 use Rattle.pl_base.specs.declared.state.State.{State}
 use Rattle.pl_base.specs.declared.state.State.TheVariants as state_is
 use Rattle.rv_tlb.specs.declared.tlb.TlbEntry.{TlbEntry}
@@ -20,39 +21,43 @@ use Rattle.mon_life.specs.Destroying.{DestroyBegun, destroy_refusal_of, dying_un
 use Rattle.mon_life.specs.Putting.{in_state}
 use Rattle.pl_history.specs.declared.answer.Answer.TheVariants as answer_is
 use Rattle.pl_history.specs.declared.line.Line.{Line}
-use Rattle.pl_history.specs.declared.line.Line.TheVariants.{Create, Run, Resume, Destroy}
-use Rattle.pl_history.specs.declared.setup.SetupParts.{SetupParts}
+use Rattle.pl_history.specs.declared.line.Line.TheVariants.{Destroy}
 use Rattle.pl_history.specs.GivingBack.{dying}
 use Rattle.pl_history.specs.Legal.{AllowedAnswer}
 use Rattle.pl_history.specs.Monitor.{Monitor, Number, begin}
 use Rattle.world_attack.specs.Room.{RoomStays}
 use Rattle.world_machine.specs.declared.under.Under.{Under}
-use Rattle.world_machine.specs.declared.under.Under.TheVariants.{Destroying, Idle, Putting, Running}
+use Rattle.world_machine.specs.declared.under.Under.TheVariants.{Destroying, Idle}
 use Rattle.world_machine.specs.Acknowledging.{without_covered}
 use Rattle.world_machine.specs.Answering.{entry_now, with_entry}
 use Rattle.world_machine.specs.BytesAgree.{HasPut, OnlyAttacksDiffer}
-use Rattle.world_machine.specs.EnclavesAgree.{EnclaveStands, EnclavesAgree}
-use Rattle.world_machine.specs.FencesStand.{GivingStands, RemovalStands, removals_by}
+use Rattle.world_machine.specs.EnclavesAgree.{EnclaveStands, EnclavesAgree, is_made}
+use Rattle.world_machine.specs.FencesStand.{NumberFenceStands, RemovalStands, removals_by}
 use Rattle.world_machine.specs.GivingBack.{begins_destroy, destroys_unless}
 use Rattle.world_machine.specs.LinesUnderWay.{LineUnderWay, number_under_way}
+use Rattle.world_machine.specs.PagesAgree.{PagesAgree}
 use Rattle.world_machine.specs.RecordsAgree.{RecordAgrees, RecordsAgree, RetiredAgrees, is_begun}
 use Rattle.world_machine.specs.Standing.{Kept, state_of, written_page}
 use Rattle.world_machine.specs.TranslationsAgree.{IsFresh, WalkingStands, walking}
 use Rattle.world_machine.specs.Worlds.{WorldData, answered_at, hart_line, tlb_at, under_at}
 use Rattle.world_machine.proofs.BeginRunRows.{none_is}
+use Rattle.world_machine.proofs.ForkedNumbers.{childless}
 use Rattle.world_machine.proofs.Frames.{Frame, enclaves_frame, line_frame, records_frame}
-use Rattle.world_machine.proofs.GivingChanges.{GivingChange, giving_changed, other_spaces}
+use Rattle.world_machine.proofs.GivingChanges.{other_spaces, tables_given}
 use Rattle.world_machine.proofs.LineKinds.{begun_line}
 use Rattle.world_machine.proofs.LineMoves.{LineMoves}
 use Rattle.world_machine.proofs.LineTranslations.{isnt_waiting}
 use Rattle.world_machine.proofs.Lists.{ChangedAt, changed_set, if_other, if_same, or_other, or_same}
+use Rattle.world_machine.proofs.NumberChanges.{NumberChange, number_changed}
 use Rattle.world_machine.proofs.NumberFreshness.{AllButOneSpace, dying_entries, dying_fresh}
+use Rattle.world_machine.proofs.OneNumber.{attacks_stay}
+use Rattle.world_machine.proofs.PagesStay.{pages_changed, pages_same}
 use Rattle.world_machine.proofs.QuietRows.{answers_kept}
-use Rattle.world_machine.proofs.RowKept.{RowFacts, attacks_frame, line_after, row_kept}
+use Rattle.world_machine.proofs.RowKept.{RowFacts, line_after, row_kept}
 use Rattle.world_machine.proofs.SetupFacts.{used_there}
 use Rattle.world_machine.proofs.StandingFences.{fences_giving, no_fence}
 use Rattle.world_machine.proofs.TranslationFrames.{giving_so, removal_so}
-use Rattle.world_machine.proofs.UnderWay.{some_same}
+use Rattle.world_machine.proofs.UnderWay.{some_same, under_way_busy}
 
 -- ---- a number that can be given back
 
@@ -73,18 +78,8 @@ rests_retired : (state : State) (retired n : ℕ) → is_under_way state ≡ fal
 rests_retired state_is.On retired n is agrees = absurd (false≢true (sym is))
 rests_retired state retired n is agrees = agrees
 
--- one that a line has under way can't be
-busy : (setup : SetupParts) (bytes : ℕ → List ℕ) (rec : ℕ → Enclave) (number : ℕ → Number) (hart f : ℕ) (line : Option Line) (under : Under)
-    → LineUnderWay setup bytes rec number hart line under → number_under_way line under ≡ Some f → is_under_way (rec f).state ≡ true
-busy setup bytes rec number hart f (Some (Create e image pages)) (Putting done) k is =
-    subst (λ g. is_under_way (rec g).state ≡ true) (some_same e.0 f is) (ap is_under_way k.state)
-busy setup bytes rec number hart f (Some (Run e budget)) (Running micro count) k is =
-    subst (λ g. is_under_way (rec g).state ≡ true) (some_same e.0 f is) (ap is_under_way k.state)
-busy setup bytes rec number hart f (Some (Resume e budget)) (Running micro count) k is =
-    subst (λ g. is_under_way (rec g).state ≡ true) (some_same e.0 f is) (ap is_under_way k.state)
-busy setup bytes rec number hart f (Some (Destroy e)) Destroying k is =
-    subst (λ g. is_under_way (rec g).state ≡ true) (some_same e.0 f is) (ap is_under_way k)
-busy setup bytes rec number hart f line under k is = cc
+rests_unsealed : (state : State) → destroy_refusal state ≡ None → state ≢ state_is.Sealed
+rests_unsealed state is sealed = none_is NoEnclave (sym (ap destroy_refusal sealed) ∙ is)
 
 module _ (digest_of : List ℕ → List ℕ) (room_stays : RoomStays) (w : WorldData) (k : Kept digest_of w) (none : w.collision ≡ None) (hart : ℕ) (below : hart < w.setup.harts)
     (e : EncNo) (here : hart_line w hart ≡ Some (Destroy e)) (idle : under_at w.under hart ≡ Idle) (there : e.0 < length w.enclaves) where
@@ -149,7 +144,7 @@ module _ (digest_of : List ℕ → List ℕ) (room_stays : RoomStays) (w : World
     not_theirs : (other f : ℕ) → number_under_way (hart_line w other) (under_at w.under other) ≡ Some f → f ≢ e.0
     not_theirs other f is same =
         false≢true (sym at_rest ∙ ap (λ g. is_under_way (enclave_at w.enclaves g).state) (sym same)
-        ∙ busy w.setup (written_page w) (enclave_at w.enclaves) s.number other f (hart_line w other) (under_at w.under other) (k.stands.lines other) is)
+        ∙ under_way_busy w.setup (written_page w) (enclave_at w.enclaves) s.number other f (hart_line w other) (under_at w.under other) (k.stands.lines other) is)
 
     moves : LineMoves w hart under' w.answered (with_entry w.history (entry_now w hart answer_is.Begun)) s' Destroying (answered_at w.answered hart)
     moves = begun_line digest_of room_stays w k hart below (Destroy e) answer_is.Begun refl here
@@ -165,6 +160,7 @@ module _ (digest_of : List ℕ → List ℕ) (room_stays : RoomStays) (w : World
       owned = λ f page other is. is;
       own_bytes = λ f page other is. refl;
       table_bytes = λ f level other few low. refl;
+      childless = λ f shadow other. childless digest_of w k e.0 (rests_unsealed r.state passes) f shadow;
     }
 
     now_agrees : RecordAgrees r_now n_now
@@ -173,7 +169,6 @@ module _ (digest_of : List ℕ → List ℕ) (room_stays : RoomStays) (w : World
       live = refl;
       hart = agrees.hart;
       image = agrees.image;
-      pages = agrees.pages;
       given = agrees.given;
       parent = agrees.parent;
       sent = agrees.sent;
@@ -188,25 +183,21 @@ module _ (digest_of : List ℕ → List ℕ) (room_stays : RoomStays) (w : World
     now_stands = record {
       image = x.image;
       image_is = x.image_is;
-      count = x.count;
-      own = x.own;
-      apart = x.apart;
-      owned = x.owned;
-      parent = x.parent;
-      spares = x.spares;
-      given = x.given;
-      now = x.now;
-      alone_is = x.alone_is;
-      context = x.context;
-      received = x.received;
-      out = x.out;
-      status = tt;
-      aligned = x.aligned;
-      taken_few = x.taken_few;
-      shown_few = x.shown_few;
-      shown = x.shown;
-      pages = λ live. absurd (false≢true live);
-      start = λ not_live not_dying. absurd (false≢true (sym not_dying));
+      held = x.held;
+      state = record {
+        now = x.state.now;
+        alone_is = x.state.alone_is;
+        context = x.state.context;
+        received = x.state.received;
+        out = x.state.out;
+        status = tt;
+        aligned = x.state.aligned;
+        taken_few = x.state.taken_few;
+        shown_few = x.state.shown_few;
+        shown = x.state.shown;
+        pages = λ made. absurd (false≢true made);
+        start = λ not_live not_dying. absurd (false≢true (sym not_dying));
+      };
     }
 
     records_agree : RecordsAgree (enclave_at enclaves') s'.number
@@ -218,6 +209,12 @@ module _ (digest_of : List ℕ → List ℕ) (room_stays : RoomStays) (w : World
         (λ used. subst (λ y. EnclaveStands w.setup (written_page w) w.owners e.0 y (s'.number e.0)) (sym change.here)
         (subst (EnclaveStands w.setup (written_page w) w.owners e.0 r_now) (sym number_here) now_stands))
 
+    pages_agree : PagesAgree w.setup (enclave_at enclaves') s'.number
+    pages_agree = pages_changed w.setup e.0 (enclave_at w.enclaves) (enclave_at enclaves') s.number s'.number r_now n_now change.others number_other
+        change.here number_here refl k.stands.pages
+        (pages_same w.setup s.number r r_now n n_now (record { image = refl; sent = refl; retired = refl; kinds = refl; left = refl; parent = refl; pages = refl; spares = refl })
+        (k.stands.pages e.0))
+
     -- ---- bytes
 
     not_live : (s'.number e.0).live ≡ false
@@ -226,19 +223,17 @@ module _ (digest_of : List ℕ → List ℕ) (room_stays : RoomStays) (w : World
     put_none : (page : ℕ) → HasPut (line_after w w.answered hart) (under_at under' hart) page → ⊥
     put_none page put = subst (λ l. HasPut l Destroying page) here (subst (λ u. HasPut (hart_line w hart) u page) moves.under_change.here put)
 
-    attacks : OnlyAttacksDiffer w.setup.zones w.ctl.off_chip w.ctl.mirror s'.attacks w.owners s'.number (line_after w w.answered) (under_at under')
-    attacks = attacks_frame w.setup.zones w.ctl.off_chip w.ctl.mirror w.ctl.off_chip w.ctl.mirror s.attacks s'.attacks w.owners w.owners s.number s'.number
-        (hart_line w) (line_after w w.answered) (under_at w.under) (under_at under') hart e.0 (λ i old. old)
-        (record {
-          guarded = λ page is. is;
-          lives = λ f other. ap (λ (m : Number). m.live) (number_other f other);
-          pages = λ f other. ap (λ (m : Number). m.pages) (number_other f other);
-          lines = λ other differs. refl;
-          unders = moves.under_change.others;
-          live_own = λ page is live. absurd (false≢true (sym not_live ∙ live));
-          put_own = λ page put. absurd (put_none page put);
-        })
-        k.stands.attacks
+    attacks : OnlyAttacksDiffer w.setup.zones w.ctl.off_chip w.ctl.mirror s'.attacks w.owners (enclave_at enclaves') s'.number (line_after w w.answered) (under_at under')
+    attacks = attacks_stay digest_of w k hart e.0 (enclave_at enclaves') s' w.owners under' w.answered (record {
+      attacks = refl;
+      records = change.others;
+      numbers = number_other;
+      guarded = λ page is. is;
+      made = λ made. absurd (false≢true (sym (ap is_made number_here) ∙ made));
+      lines = λ other differs. refl;
+      unders = moves.under_change.others;
+      put = put_none;
+    })
 
     -- ---- translations
 
@@ -254,8 +249,8 @@ module _ (digest_of : List ℕ → List ℕ) (room_stays : RoomStays) (w : World
     none_posted : fence_of w.fences hart ≡ None
     none_posted = no_fence w.setup.harts w.fences s.removals k.stands.translations.fences_stand hart below (giving_so digest_of w k hart (ap isnt_waiting idle)) no_removal
 
-    spaces : AllButOneSpace w.setup s s' e.0
-    spaces = other_spaces digest_of w k e.0 (enclave_at enclaves') w.owners s' refl refl change.others number_other records_agree enclaves_agree
+    spaces : AllButOneSpace w.setup (enclave_at w.enclaves) (enclave_at enclaves') s s' e.0
+    spaces = other_spaces w e.0 (enclave_at enclaves') s' refl refl change.others number_other
 
     -- the hart's line after it
     abbrev AtDestroying : (Option Line → Under → Type 0) → Type 0
@@ -264,13 +259,13 @@ module _ (digest_of : List ℕ → List ℕ) (room_stays : RoomStays) (w : World
     at_destroying : (P : Option Line → Under → Type 0) → P (Some (Destroy e)) Destroying → AtDestroying P
     at_destroying P holds = subst (λ l. P l (under_at under' hart)) (sym here) (subst (P (Some (Destroy e))) (sym moves.under_change.here) holds)
 
-    giving : GivingChange w hart e.0 (enclave_at enclaves') tlbs' fences' s' (line_after w w.answered) (under_at under')
-    giving = record {
-      space = refl;
+    numbers_change : NumberChange w hart e.0 w.ctl (enclave_at enclaves') tlbs' fences' s' (line_after w w.answered) (under_at under')
+    numbers_change = record {
       removals = refl;
       records = change.others;
-      numbers = number_other;
-      not_live = not_live;
+      tables = tables_given digest_of w k e.0 (enclave_at enclaves') s' refl change.others number_other not_live w.ctl.off_chip;
+      host_at = λ vpn level. refl;
+      number_at = λ f live vpn level. refl;
       harts = length-set w.tlbs hart entries';
       fences_stand = fences_giving w.setup.harts w.fences s.removals k.stands.translations.fences_stand hart below e.0 no_removal;
       lines = λ other differs. refl;
@@ -278,14 +273,15 @@ module _ (digest_of : List ℕ → List ℕ) (room_stays : RoomStays) (w : World
       apart = λ other f differs is. not_theirs other f is;
       fences = λ other differs. fence_of-set_other w.fences hart other _ differs;
       tlbs = λ other differs. or_other w.tlbs hart other entries' [] differs;
-      used = λ other inside differs. dying_fresh w.setup s s' e.0 spaces w.fences hart none_posted k.stands.translations.fences_stand.needs_others hart_has_fence other
+      used = λ other inside differs. dying_fresh w.setup (enclave_at w.enclaves) (enclave_at enclaves') s s' e.0 spaces w.fences hart none_posted k.stands.translations.fences_stand.needs_others hart_has_fence other
           (subst (λ size. other < size) (sym k.stands.translations.fences_stand.size) inside) differs;
       own_removals = at_destroying (λ l u. RemovalStands l u (removals_by s.removals hart)) no_removal;
-      own_giving = at_destroying (λ l u. GivingStands l u (fence_of fences' hart)) (_, fence_of-set_same w.fences hart _ hart_has_fence, (refl, refl));
-      own_entries = subst (All (IsFresh w.setup s' fences' hart)) (sym (or_same w.tlbs hart entries' [] hart_has_tlb))
-          (dying_entries w.setup s s' e.0 spaces w.fences hart none_posted k.stands.translations.fences_stand.needs_others hart_has_fence (tlb_at w.tlbs hart)
+      own_giving = at_destroying (λ l u. NumberFenceStands l u (fence_of fences' hart))
+          (record { posted = _; is = fence_of-set_same w.fences hart _ hart_has_fence; of_number = refl; whole = refl });
+      own_entries = subst (All (IsFresh w.setup (enclave_at enclaves') s' fences' hart)) (sym (or_same w.tlbs hart entries' [] hart_has_tlb))
+          (dying_entries w.setup (enclave_at w.enclaves) (enclave_at enclaves') s s' e.0 spaces w.fences hart none_posted k.stands.translations.fences_stand.needs_others hart_has_fence (tlb_at w.tlbs hart)
           (k.stands.translations.fresh.entries hart));
-      own_walk = at_destroying (λ l u. WalkingStands w.ctl (IsFresh w.setup s' fences' hart) (walking w.setup.tables (enclave_at enclaves') l u)) tt;
+      own_walk = at_destroying (λ l u. WalkingStands w.ctl (IsFresh w.setup (enclave_at enclaves') s' fences' hart) (walking w.setup.tables (enclave_at enclaves') l u)) tt;
     }
 
     facts : RowFacts digest_of w hart w.ctl w.owners enclaves' tlbs' fences' under' w.answered (with_entry w.history (entry_now w hart answer_is.Begun)) s' Destroying (answered_at w.answered hart)
@@ -295,6 +291,7 @@ module _ (digest_of : List ℕ → List ℕ) (room_stays : RoomStays) (w : World
       trees = k.trees;
       owners_agree = record { owner = k.stands.owners.owner; maps = k.stands.owners.maps };
       records = records_agree;
+      pages_agree = pages_agree;
       enclaves_agree = enclaves_agree;
       host = k.stands.host;
       attacks = attacks;
@@ -303,7 +300,7 @@ module _ (digest_of : List ℕ → List ℕ) (room_stays : RoomStays) (w : World
           (not_theirs other) (k.stands.lines other);
       own_line = subst (λ l. LineUnderWay w.setup (written_page w) (enclave_at enclaves') s'.number hart l Destroying) (sym here) (ap (λ (y : Enclave). y.state) change.here);
       own_apart = λ other f differs own theirs. not_theirs other f theirs (some_same f e.0 (sym own ∙ ap (λ l. number_under_way l Destroying) here));
-      translations = giving_changed digest_of w k hart e.0 (enclave_at enclaves') tlbs' fences' s' (line_after w w.answered) (under_at under') giving w.ctl.off_chip;
+      translations = number_changed digest_of w k hart e.0 w.ctl (enclave_at enclaves') tlbs' fences' s' (line_after w w.answered) (under_at under') numbers_change;
     }
 
     begun_kept : Kept digest_of (destroys_unless None (record w { enclaves = enclaves'; fences = fences' }) hart e)

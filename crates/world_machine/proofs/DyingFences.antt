@@ -1,4 +1,5 @@
--- In a kept world each dying number has the fence of its space, and there is no other fence than those and the ones of open removals.
+-- In a kept world each dying number has the fence of its space, and each fence is of an open removal, of a number that is given back, or of a page
+-- that was broken.
 use Rattle.std.proofs.Common.{◌≡◌, ◌⊎◌, ℕ, ◌==◌, Bool, true, false, if◌then◌else◌, List, Option, Some, None, option_map, refl, sym, ap, ◌∙◌, subst, inl, inr}
 use Rattle.pl_base.specs.declared.number.EncNo.{EncNo}
 use Rattle.mon_enclave.specs.declared.enclave.Enclave.{Enclave}
@@ -13,15 +14,15 @@ use Rattle.pl_history.specs.declared.setup.SetupParts.{SetupParts}
 use Rattle.pl_history.specs.Legal.{line_at, of_attacker, of_hart}
 use Rattle.pl_history.specs.Monitor.{Monitor, Number, Progress}
 use Rattle.world_machine.specs.declared.under.Under.{Under}
-use Rattle.world_machine.specs.declared.under.Under.TheVariants.{Idle, Seeking, Removing, Destroying, Putting, Running}
-use Rattle.world_machine.specs.DyingNumbers.{Dies, DyingNumbersFenced, HasFence}
-use Rattle.world_machine.specs.FencesStand.{FenceStands, GivingStands, IsOfNumber, IsOfRemoval, removals_by}
+use Rattle.world_machine.specs.declared.under.Under.TheVariants.{Idle, Seeking, Removing, Destroying, Putting, Running, Breaking}
+use Rattle.world_machine.specs.DyingNumbers.{BrokeFor, Dies, DyingNumbersFenced, GivesBack, HasFence}
+use Rattle.world_machine.specs.FencesStand.{FenceStands, NumberFenceStands, IsOfNumber, IsOfRemoval, removals_by}
 use Rattle.world_machine.specs.LinesUnderWay.{LineUnderWay}
 use Rattle.world_machine.specs.RecordsAgree.{is_begun, progress_of}
 use Rattle.world_machine.specs.Standing.{Kept, state_of, written_page}
 use Rattle.world_machine.specs.Worlds.{WorldData, hart_line, under_at}
-use Rattle.world_machine.proofs.DyingNumbers.{GivesBack, legal_given}
-use Rattle.world_machine.proofs.Leaving.{number_dies}
+use Rattle.world_machine.proofs.DyingNumbers.{IsGivenBackBy, legal_given}
+use Rattle.world_machine.proofs.Leaving.{fence_under_way, number_posts}
 
 -- a line of a hart is in the script of that hart
 pub in_script : (attackers : Bool) (a : Option AttackLine) (b : Option Line) (line : Line)
@@ -39,13 +40,14 @@ gives_back setup bytes rec number hart e (Seeking walk) stands begun = absurd st
 gives_back setup bytes rec number hart e (Removing page) stands begun = absurd stands
 gives_back setup bytes rec number hart e (Putting done) stands begun = absurd stands
 gives_back setup bytes rec number hart e (Running micro count) stands begun = absurd stands
+gives_back setup bytes rec number hart e (Breaking count) stands begun = absurd stands
 gives_back setup bytes rec number hart e Destroying stands begun = refl
 
 module _ (digest_of : List ℕ → List ℕ) (w : WorldData) (k : Kept digest_of w) where
   abbrev s : Monitor
   s = state_of w
 
-  module _ (e : ℕ) (g : GivesBack w.setup s e) where
+  module _ (e : ℕ) (g : IsGivenBackBy w.setup s e) where
     abbrev gives : Line
     gives = Destroy (record { 0 = e })
 
@@ -60,28 +62,48 @@ module _ (digest_of : List ℕ → List ℕ) (w : WorldData) (k : Kept digest_of
         (subst (λ l. LineUnderWay w.setup (written_page w) (enclave_at w.enclaves) s.number g.hart l (under_at w.under g.hart)) line (k.stands.lines g.hart))
         (ap (λ (p : Progress). p.begun) (sym progress) ∙ g.begun)
 
-    giving : GivingStands (Some gives) Destroying (fence_of w.fences g.hart)
-    giving = subst (λ u. GivingStands (Some gives) u (fence_of w.fences g.hart)) begun
-        (subst (λ l. GivingStands l (under_at w.under g.hart) (fence_of w.fences g.hart)) line (k.stands.translations.giving g.hart))
+    giving : NumberFenceStands (Some gives) Destroying (fence_of w.fences g.hart)
+    giving = subst (λ u. NumberFenceStands (Some gives) u (fence_of w.fences g.hart)) begun
+        (subst (λ l. NumberFenceStands l (under_at w.under g.hart) (fence_of w.fences g.hart)) line (k.stands.translations.giving g.hart))
 
     has_fence : HasFence w e
-    has_fence = record { hart = g.hart; line = line; begun = begun; fence = giving.0; is = giving.1; of_number = giving.2 }
+    has_fence = record {
+      hart = g.hart;
+      fence = giving.posted;
+      is = giving.is;
+      gives = record { line = line; begun = begun; of_number = giving.of_number; whole = giving.whole };
+    }
 
   module _ (hart : ℕ) (fence : Fence) (is : fence_of w.fences hart ≡ Some fence) where
     abbrev removed : List Mapping
     removed = removals_by s.removals hart
 
-    by_kind : FenceStands (Some fence) removed → IsOfRemoval fence removed ⊎ ((e : ℕ) × IsOfNumber fence e × Dies w e)
-    by_kind (inl of_removal) = inl of_removal
-    by_kind (inr (e, of_number, none)) =
-        inr (
-          e,
-          of_number,
-          number_dies w.setup (written_page w) (enclave_at w.enclaves) s.number hart e (hart_line w hart) (under_at w.under hart) fence of_number
-              (subst (GivingStands (hart_line w hart) (under_at w.under hart)) is (k.stands.translations.giving hart)) (k.stands.lines hart),
-        )
+    -- of a number: its hart gives it back, or broke a page
+    abbrev OfNumber : ℕ → Type 0
+    OfNumber e = (GivesBack w hart e fence × Dies w e) ⊎ BrokeFor w hart e fence
 
-    of_one : IsOfRemoval fence removed ⊎ ((e : ℕ) × IsOfNumber fence e × Dies w e)
+    by_number : (e : ℕ) → IsOfNumber fence e → OfNumber e
+    by_number e of_number =
+        elim (number_posts w.setup (written_page w) (enclave_at w.enclaves) s.number hart e (hart_line w hart) (under_at w.under hart) fence of_number gives (k.stands.lines hart)) [
+          | inl given ↦ inl (record { line = given.0.0; begun = given.0.1; of_number = of_number; whole = given.0.2 }, given.1)
+          | inr broke ↦ inr (record {
+            under_way = fence_under_way (hart_line w hart) (under_at w.under hart) fence e of_number gives;
+            count = broke.1.count;
+            breaking = broke.1.breaking;
+            of_number = of_number;
+            vpn = broke.1.vpn;
+            of_page = broke.1.of_page;
+          })
+        ]
+      where
+        gives : NumberFenceStands (hart_line w hart) (under_at w.under hart) (Some fence)
+        gives = subst (NumberFenceStands (hart_line w hart) (under_at w.under hart)) is (k.stands.translations.giving hart)
+
+    by_kind : FenceStands (Some fence) removed → IsOfRemoval fence removed ⊎ ((e : ℕ) × OfNumber e)
+    by_kind (inl of_removal) = inl of_removal
+    by_kind (inr (e, of_number, none)) = inr (e, by_number e of_number)
+
+    of_one : IsOfRemoval fence removed ⊎ ((e : ℕ) × OfNumber e)
     of_one = by_kind (subst (λ f. FenceStands f removed) is (k.stands.translations.fences_stand.each hart))
 
   pub dying_fenced : DyingNumbersFenced w

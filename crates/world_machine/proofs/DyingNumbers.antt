@@ -118,13 +118,13 @@ module _ (e : ℕ) where
 -- ---- who gives a number back
 
 -- a hart's first line without an answer is a `destroy` of this number, begun
-pub record GivesBack (setup : SetupParts) (s : Monitor) (e : ℕ) : Type 0 where
+pub record IsGivenBackBy (setup : SetupParts) (s : Monitor) (e : ℕ) : Type 0 where
   pub hart : ℕ
   pub line : line_at setup hart (s.progress hart).answered ≡ Some (of_hart (line_is.Destroy (record { 0 = e })))
   pub begun : (s.progress hart).begun ≡ true
 
 abbrev pub DyingGivenBack : SetupParts → Monitor → Type 0
-DyingGivenBack setup s = (e : ℕ) → (s.number e).state ≡ state_is.Dying → GivesBack setup s e
+DyingGivenBack setup s = (e : ℕ) → (s.number e).state ≡ state_is.Dying → IsGivenBackBy setup s e
 
 module _ (setup : SetupParts) (bytes : List ℕ) where
   module _ (s : Monitor) (before : List Entry) (entry : Entry) (allowed : Allowed setup bytes s before entry) where
@@ -139,7 +139,7 @@ module _ (setup : SetupParts) (bytes : List ℕ) where
       gives = line_is.Destroy (record { 0 = e })
 
       -- after its `begun` the hart's line is under way
-      begun_now : line_at setup entry.actor entry.line ≡ Some (of_hart gives) → entry.answer ≡ answer_is.Begun → GivesBack setup now e
+      begun_now : line_at setup entry.actor entry.line ≡ Some (of_hart gives) → entry.answer ≡ answer_is.Begun → IsGivenBackBy setup now e
       begun_now here begun =
           let own : entry.actor == entry.actor ≡ true = eq-eqb entry.actor entry.actor refl in
           let progress : now.progress entry.actor ≡ moved (s.progress entry.actor) entry.answer = rw own at (progress_is entry.actor) in
@@ -164,7 +164,7 @@ module _ (setup : SetupParts) (bytes : List ℕ) where
           ∙ ap (λ a. ((after_answer s entry.actor gives a).number e).state) ok
           ∙ ap (λ (b : Bool). (if b then freed (s.number e) else s.number e).state) (eq-eqb e e refl)
 
-      still_given : GivesBack setup s e → (now.number e).state ≡ state_is.Dying → GivesBack setup now e
+      still_given : IsGivenBackBy setup s e → (now.number e).state ≡ state_is.Dying → IsGivenBackBy setup now e
       still_given g dies = elim (cases_Bool (g.hart == entry.actor)) [
         | inl own ↦ (
             let is : g.hart ≡ entry.actor = eqb-true g.hart entry.actor own in

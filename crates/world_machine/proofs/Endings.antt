@@ -1,11 +1,10 @@
 -- What the end of a run means, in a world that keeps what worlds keep.
-use Rattle.std.proofs.Common.{◌≡◌, ℕ, zero, suc, ◌+◌, ◌<◌, ◌≤◌, eqb, leb, Bool, true, false, not, ◌&&◌, if◌then◌else◌, List, [], ◌∷◌, ◌++◌, length, get_or, slice_get, unwrap_or, Option, Some, None, is_some, refl, sym, ap, ◌∙◌, subst, arith, inl, inr}
+use Rattle.std.proofs.Common.{◌≡◌, ℕ, zero, suc, ◌+◌, ◌<◌, ◌≤◌, eqb, leb, Bool, true, false, if◌then◌else◌, List, [], ◌∷◌, ◌++◌, length, unwrap_or, Option, Some, None, is_some, refl, sym, ap, ◌∙◌, subst, arith, inl, inr}
 use Rattle.std.specs.Option.{IsSomeAnd}
-use Rattle.std.specs.List.{flat_map, list_all, position, position_or_len, range_with_len}
+use Rattle.std.specs.List.{list_all, range_with_len}
 use Rattle.std.proofs.lemmas.Bool.{and_parts, cases_lt, eqb-true, false≢true}
 use Rattle.std.proofs.lemmas.Bool.Decides.{nat_tests}
 use Rattle.std.proofs.lemmas.List.Folds.{list_all-append, list_all-map}
-use Rattle.std.proofs.lemmas.List.Sums.{list_all-from_AllPass, prefix_len_passes}
 use Rattle.std.proofs.lemmas.Option.{slice_get_past}
 use Rattle.pl_base.specs.declared.actor.Actor.{Actor}
 use Rattle.pl_base.specs.declared.actor.Actor.TheVariants.{Hart, Ack, Attacker}
@@ -18,7 +17,6 @@ use Rattle.pl_history.specs.declared.line.AttackLine.{AttackLine}
 use Rattle.pl_history.specs.declared.line.AttackLine.TheVariants as attack
 use Rattle.pl_history.specs.declared.line.Line.{Line}
 use Rattle.pl_history.specs.declared.line.Line.TheVariants.{Load, Store, Map, Unmap, Create, Shadow, Fork, Grant, Run, Resume, Send, Take, Destroy, Drop, After}
-use Rattle.pl_history.specs.declared.setup.SetupParts.{SetupParts}
 use Rattle.pl_history.specs.Legal.{AllAnswered}
 use Rattle.pl_history.specs.Monitor.{Progress, line_count, script_of}
 use Rattle.world_machine.specs.declared.turned.Finished.{Finished}
@@ -26,20 +24,19 @@ use Rattle.world_machine.specs.declared.turned.Finished.TheVariants as finished
 use Rattle.world_machine.specs.declared.turned.Turned.TheVariants as turned
 use Rattle.world_machine.specs.declared.turned.Wait.TheVariants as wait
 use Rattle.world_machine.specs.declared.under.Under.{Under}
-use Rattle.world_machine.specs.declared.under.Under.TheVariants.{Idle, Seeking, Removing, Destroying, Putting, Running}
+use Rattle.world_machine.specs.declared.under.Under.TheVariants.{Idle, Seeking, Removing, Destroying, Putting, Running, Breaking}
 use Rattle.world_machine.specs.Acknowledging.{owed}
 use Rattle.world_machine.specs.Endings.{EndsBy, IsAttackBlocked, IsBlocked, IsStuck}
 use Rattle.world_machine.specs.GivingBack.{ends_destroy}
 use Rattle.world_machine.specs.HostMapping.{ends_unmap, lacked_by}
 use Rattle.world_machine.specs.LinesUnderWay.{LineUnderWay}
+use Rattle.world_machine.specs.Running.{restarts}
 use Rattle.world_machine.specs.Runs.{acknowledgements, all_answered, hart_turns, is_still, nobody_moves, over_of}
 use Rattle.world_machine.specs.Standing.{CollisionStands, Kept, state_of, written_page}
 use Rattle.world_machine.specs.Steps.{ack_turn, actor_turn, attacker_turn, due, hart_turn, moves, rests, turned_by, waiting_turn}
-use Rattle.world_machine.specs.Unbuilt.{first_unbuilt_of, is_built, joined}
 use Rattle.world_machine.specs.Worlds.{CollisionData, Event, WorldData, answered_at, hart_line, under_at}
 use Rattle.world_machine.proofs.FenceTurns.{fence_turn}
-use Rattle.world_machine.proofs.NobodyOwed.{nobody_lacking, none_below}
-use Rattle.world_machine.proofs.SetupFacts.{each_holds}
+use Rattle.world_machine.proofs.NobodyOwed.{nobody_lacking}
 
 -- ---- tests on lists
 
@@ -51,32 +48,6 @@ in_range p from (suc n) x all low high =
       | inl here ↦ let same : x ≡ from = (let h : x < from + 1 = here in omega arith) in ap p same ∙ parts.0
       | inr later ↦ let l : from + 1 ≤ x = later in in_range p (from + 1) n x parts.1 l (omega arith)
     ]
-
-each_joined : {A : Type 0} (p : A → Bool) (lists : List (List A)) → list_all p (flat_map (λ xs. xs) lists) ≡ true → list_all (list_all p) lists ≡ true
-each_joined p [] all = refl
-each_joined p (xs ∷ lists) all =
-    let parts = and_parts (list_all p xs) (list_all p (flat_map (λ ys. ys) lists)) (sym (list_all-append p xs (flat_map (λ ys. ys) lists)) ∙ all) in
-    ap (λ b. b && list_all (list_all p) lists) parts.0 ∙ each_joined p lists parts.1
-
--- ---- each line is built
-
-twice_not : (b : Bool) → not (not b) ≡ b
-twice_not true = refl
-twice_not false = refl
-
-all_built : (lines : List Line) → position (λ line. not (is_built line)) lines ≡ None → list_all is_built lines ≡ true
-all_built lines none =
-    let past : length lines ≤ position_or_len (λ line. not (is_built line)) lines = none_below (position_or_len (λ line. not (is_built line)) lines) (length lines) none in
-    list_all-from_AllPass is_built lines (λ at line below. sym (twice_not (is_built (get_or lines at line))) ∙ prefix_len_passes (λ l. not (not (is_built l))) lines at line (omega arith))
-
-built_in : (script : Option (List Line)) (at : ℕ) (line : Line) → ((lines : List Line) → script ≡ Some lines → list_all is_built lines ≡ true) → slice_get (unwrap_or script []) at ≡ Some line → is_built line ≡ true
-built_in None at line all here = cc
-built_in (Some lines) at line all here = each_holds is_built lines at line (all lines refl) here
-
-pub line_built : (setup : SetupParts) (hart at : ℕ) (line : Line) → first_unbuilt_of setup ≡ None → slice_get (script_of setup hart) at ≡ Some line → is_built line ≡ true
-line_built setup hart at line none here =
-    built_in (slice_get setup.lines hart) at line
-    (λ lines is. each_holds (list_all is_built) setup.lines hart lines (each_joined is_built setup.lines (all_built (joined setup.lines) none)) is) here
 
 -- ---- fences
 
@@ -123,78 +94,113 @@ module _ (digest_of : List ℕ → List ℕ) (w : WorldData) (k : Kept digest_of
     ends ended None still = false≢true still
     ends ended (Some harts) still = false≢true still
 
-    blocked : (line : Line) (under : Under) → under_at w.under hart ≡ under → is_built line ≡ true → Standing line under → Still line under → IsBlocked w hart line
-    blocked (Load va) Idle so_far built standing still = absurd (false≢true still)
-    blocked (Load va) (Seeking walk) so_far built standing still = absurd (false≢true still)
-    blocked (Load va) (Removing page) so_far built standing still = absurd standing
-    blocked (Load va) Destroying so_far built standing still = absurd standing
-    blocked (Load va) (Putting done) so_far built standing still = absurd standing
-    blocked (Load va) (Running micro done) so_far built standing still = absurd standing
-    blocked (Store va word) Idle so_far built standing still = absurd (false≢true still)
-    blocked (Store va word) (Seeking walk) so_far built standing still = absurd (false≢true still)
-    blocked (Store va word) (Removing page) so_far built standing still = absurd standing
-    blocked (Store va word) Destroying so_far built standing still = absurd standing
-    blocked (Store va word) (Putting done) so_far built standing still = absurd standing
-    blocked (Store va word) (Running micro done) so_far built standing still = absurd standing
-    blocked (Map va page perms) Idle so_far built standing still = absurd (false≢true still)
-    blocked (Map va page perms) (Seeking walk) so_far built standing still = absurd standing
-    blocked (Map va page perms) (Removing from) so_far built standing still = absurd standing
-    blocked (Map va page perms) Destroying so_far built standing still = absurd standing
-    blocked (Map va page perms) (Putting done) so_far built standing still = absurd standing
-    blocked (Map va page perms) (Running micro done) so_far built standing still = absurd standing
-    blocked (Unmap va) Idle so_far built standing still = absurd (false≢true still)
-    blocked (Unmap va) (Seeking walk) so_far built standing still = absurd standing
-    blocked (Unmap va) (Removing page) so_far built standing still = absurd (ends (ends_unmap w hart page) (lacked_by w hart) still)
-    blocked (Unmap va) Destroying so_far built standing still = absurd standing
-    blocked (Unmap va) (Putting done) so_far built standing still = absurd standing
-    blocked (Unmap va) (Running micro done) so_far built standing still = absurd standing
-    blocked (Create e image pages) Idle so_far built standing still = absurd (false≢true still)
-    blocked (Create e image pages) (Seeking walk) so_far built standing still = absurd standing
-    blocked (Create e image pages) (Removing page) so_far built standing still = absurd standing
-    blocked (Create e image pages) Destroying so_far built standing still = absurd standing
-    blocked (Create e image pages) (Putting done) so_far built standing still = absurd (false≢true still)
-    blocked (Create e image pages) (Running micro done) so_far built standing still = absurd standing
-    blocked (Run e budget) Idle so_far built standing still = absurd (false≢true still)
-    blocked (Run e budget) (Seeking walk) so_far built standing still = absurd standing
-    blocked (Run e budget) (Removing page) so_far built standing still = absurd standing
-    blocked (Run e budget) Destroying so_far built standing still = absurd standing
-    blocked (Run e budget) (Putting done) so_far built standing still = absurd standing
-    blocked (Run e budget) (Running micro done) so_far built standing still = absurd (false≢true still)
-    blocked (Resume e budget) Idle so_far built standing still = absurd (false≢true still)
-    blocked (Resume e budget) (Seeking walk) so_far built standing still = absurd standing
-    blocked (Resume e budget) (Removing page) so_far built standing still = absurd standing
-    blocked (Resume e budget) Destroying so_far built standing still = absurd standing
-    blocked (Resume e budget) (Putting done) so_far built standing still = absurd standing
-    blocked (Resume e budget) (Running micro done) so_far built standing still = absurd (false≢true still)
-    blocked (Send e word) Idle so_far built standing still = absurd (false≢true still)
-    blocked (Send e word) (Seeking walk) so_far built standing still = absurd standing
-    blocked (Send e word) (Removing page) so_far built standing still = absurd standing
-    blocked (Send e word) Destroying so_far built standing still = absurd standing
-    blocked (Send e word) (Putting done) so_far built standing still = absurd standing
-    blocked (Send e word) (Running micro done) so_far built standing still = absurd standing
-    blocked (Take e) Idle so_far built standing still = absurd (false≢true still)
-    blocked (Take e) (Seeking walk) so_far built standing still = absurd standing
-    blocked (Take e) (Removing page) so_far built standing still = absurd standing
-    blocked (Take e) Destroying so_far built standing still = absurd standing
-    blocked (Take e) (Putting done) so_far built standing still = absurd standing
-    blocked (Take e) (Running micro done) so_far built standing still = absurd standing
-    blocked (After actor count) Idle so_far built standing still =
+    blocked : (line : Line) (under : Under) → under_at w.under hart ≡ under → Standing line under → Still line under → IsBlocked w hart line
+    blocked (Load va) Idle so_far standing still = absurd (false≢true still)
+    blocked (Load va) (Seeking walk) so_far standing still = absurd (false≢true still)
+    blocked (Load va) (Removing page) so_far standing still = absurd standing
+    blocked (Load va) Destroying so_far standing still = absurd standing
+    blocked (Load va) (Putting done) so_far standing still = absurd standing
+    blocked (Load va) (Running micro done) so_far standing still = absurd standing
+    blocked (Load va) (Breaking done) so_far standing still = absurd standing
+    blocked (Store va word) Idle so_far standing still = absurd (false≢true still)
+    blocked (Store va word) (Seeking walk) so_far standing still = absurd (false≢true still)
+    blocked (Store va word) (Removing page) so_far standing still = absurd standing
+    blocked (Store va word) Destroying so_far standing still = absurd standing
+    blocked (Store va word) (Putting done) so_far standing still = absurd standing
+    blocked (Store va word) (Running micro done) so_far standing still = absurd standing
+    blocked (Store va word) (Breaking done) so_far standing still = absurd standing
+    blocked (Map va page perms) Idle so_far standing still = absurd (false≢true still)
+    blocked (Map va page perms) (Seeking walk) so_far standing still = absurd standing
+    blocked (Map va page perms) (Removing from) so_far standing still = absurd standing
+    blocked (Map va page perms) Destroying so_far standing still = absurd standing
+    blocked (Map va page perms) (Putting done) so_far standing still = absurd standing
+    blocked (Map va page perms) (Running micro done) so_far standing still = absurd standing
+    blocked (Map va page perms) (Breaking done) so_far standing still = absurd standing
+    blocked (Unmap va) Idle so_far standing still = absurd (false≢true still)
+    blocked (Unmap va) (Seeking walk) so_far standing still = absurd standing
+    blocked (Unmap va) (Removing page) so_far standing still = absurd (ends (ends_unmap w hart page) (lacked_by w hart) still)
+    blocked (Unmap va) Destroying so_far standing still = absurd standing
+    blocked (Unmap va) (Putting done) so_far standing still = absurd standing
+    blocked (Unmap va) (Running micro done) so_far standing still = absurd standing
+    blocked (Unmap va) (Breaking done) so_far standing still = absurd standing
+    blocked (Create e image pages) Idle so_far standing still = absurd (false≢true still)
+    blocked (Create e image pages) (Seeking walk) so_far standing still = absurd standing
+    blocked (Create e image pages) (Removing page) so_far standing still = absurd standing
+    blocked (Create e image pages) Destroying so_far standing still = absurd standing
+    blocked (Create e image pages) (Putting done) so_far standing still = absurd (false≢true still)
+    blocked (Create e image pages) (Running micro done) so_far standing still = absurd standing
+    blocked (Create e image pages) (Breaking done) so_far standing still = absurd standing
+    blocked (Run e budget) Idle so_far standing still = absurd (false≢true still)
+    blocked (Run e budget) (Seeking walk) so_far standing still = absurd standing
+    blocked (Run e budget) (Removing page) so_far standing still = absurd standing
+    blocked (Run e budget) Destroying so_far standing still = absurd standing
+    blocked (Run e budget) (Putting done) so_far standing still = absurd standing
+    blocked (Run e budget) (Running micro done) so_far standing still = absurd (false≢true still)
+    blocked (Run e budget) (Breaking done) so_far standing still = absurd (ends (restarts w hart done) (lacked_by w hart) still)
+    blocked (Resume e budget) Idle so_far standing still = absurd (false≢true still)
+    blocked (Resume e budget) (Seeking walk) so_far standing still = absurd standing
+    blocked (Resume e budget) (Removing page) so_far standing still = absurd standing
+    blocked (Resume e budget) Destroying so_far standing still = absurd standing
+    blocked (Resume e budget) (Putting done) so_far standing still = absurd standing
+    blocked (Resume e budget) (Running micro done) so_far standing still = absurd (false≢true still)
+    blocked (Resume e budget) (Breaking done) so_far standing still = absurd (ends (restarts w hart done) (lacked_by w hart) still)
+    blocked (Send e word) Idle so_far standing still = absurd (false≢true still)
+    blocked (Send e word) (Seeking walk) so_far standing still = absurd standing
+    blocked (Send e word) (Removing page) so_far standing still = absurd standing
+    blocked (Send e word) Destroying so_far standing still = absurd standing
+    blocked (Send e word) (Putting done) so_far standing still = absurd standing
+    blocked (Send e word) (Running micro done) so_far standing still = absurd standing
+    blocked (Send e word) (Breaking done) so_far standing still = absurd standing
+    blocked (Take e) Idle so_far standing still = absurd (false≢true still)
+    blocked (Take e) (Seeking walk) so_far standing still = absurd standing
+    blocked (Take e) (Removing page) so_far standing still = absurd standing
+    blocked (Take e) Destroying so_far standing still = absurd standing
+    blocked (Take e) (Putting done) so_far standing still = absurd standing
+    blocked (Take e) (Running micro done) so_far standing still = absurd standing
+    blocked (Take e) (Breaking done) so_far standing still = absurd standing
+    blocked (After actor count) Idle so_far standing still =
         record { actor = actor; count = count; line_is = refl; idle = so_far; few = waiting count (answered_at w.answered actor) _ actor (leb count (answered_at w.answered actor)) refl still }
-    blocked (After actor count) (Seeking walk) so_far built standing still = absurd standing
-    blocked (After actor count) (Removing page) so_far built standing still = absurd standing
-    blocked (After actor count) Destroying so_far built standing still = absurd standing
-    blocked (After actor count) (Putting done) so_far built standing still = absurd standing
-    blocked (After actor count) (Running micro done) so_far built standing still = absurd standing
-    blocked (Shadow e image pages) under so_far built standing still = absurd (false≢true built)
-    blocked (Fork s e pages) under so_far built standing still = absurd (false≢true built)
-    blocked (Grant e page) under so_far built standing still = absurd (false≢true built)
-    blocked (Destroy e) Idle so_far built standing still = absurd (false≢true still)
-    blocked (Destroy e) (Seeking walk) so_far built standing still = absurd standing
-    blocked (Destroy e) (Removing page) so_far built standing still = absurd standing
-    blocked (Destroy e) Destroying so_far built standing still = absurd (ends (ends_destroy w hart e) (lacked_by w hart) still)
-    blocked (Destroy e) (Putting done) so_far built standing still = absurd standing
-    blocked (Destroy e) (Running micro done) so_far built standing still = absurd standing
-    blocked (Drop s) under so_far built standing still = absurd (false≢true built)
+    blocked (After actor count) (Seeking walk) so_far standing still = absurd standing
+    blocked (After actor count) (Removing page) so_far standing still = absurd standing
+    blocked (After actor count) Destroying so_far standing still = absurd standing
+    blocked (After actor count) (Putting done) so_far standing still = absurd standing
+    blocked (After actor count) (Running micro done) so_far standing still = absurd standing
+    blocked (After actor count) (Breaking done) so_far standing still = absurd standing
+    blocked (Shadow e image pages) Idle so_far standing still = absurd (false≢true still)
+    blocked (Shadow e image pages) (Seeking walk) so_far standing still = absurd standing
+    blocked (Shadow e image pages) (Removing from) so_far standing still = absurd standing
+    blocked (Shadow e image pages) Destroying so_far standing still = absurd standing
+    blocked (Shadow e image pages) (Putting done) so_far standing still = absurd (false≢true still)
+    blocked (Shadow e image pages) (Running micro done) so_far standing still = absurd standing
+    blocked (Shadow e image pages) (Breaking done) so_far standing still = absurd standing
+    blocked (Fork s e pages) Idle so_far standing still = absurd (false≢true still)
+    blocked (Fork s e pages) (Seeking walk) so_far standing still = absurd standing
+    blocked (Fork s e pages) (Removing from) so_far standing still = absurd standing
+    blocked (Fork s e pages) Destroying so_far standing still = absurd standing
+    blocked (Fork s e pages) (Putting done) so_far standing still = absurd (false≢true still)
+    blocked (Fork s e pages) (Running micro done) so_far standing still = absurd standing
+    blocked (Fork s e pages) (Breaking done) so_far standing still = absurd standing
+    blocked (Grant e page) Idle so_far standing still = absurd (false≢true still)
+    blocked (Grant e page) (Seeking walk) so_far standing still = absurd standing
+    blocked (Grant e page) (Removing from) so_far standing still = absurd standing
+    blocked (Grant e page) Destroying so_far standing still = absurd standing
+    blocked (Grant e page) (Putting done) so_far standing still = absurd standing
+    blocked (Grant e page) (Running micro done) so_far standing still = absurd standing
+    blocked (Grant e page) (Breaking done) so_far standing still = absurd standing
+    blocked (Destroy e) Idle so_far standing still = absurd (false≢true still)
+    blocked (Destroy e) (Seeking walk) so_far standing still = absurd standing
+    blocked (Destroy e) (Removing page) so_far standing still = absurd standing
+    blocked (Destroy e) Destroying so_far standing still = absurd (ends (ends_destroy w hart e) (lacked_by w hart) still)
+    blocked (Destroy e) (Putting done) so_far standing still = absurd standing
+    blocked (Destroy e) (Running micro done) so_far standing still = absurd standing
+    blocked (Destroy e) (Breaking done) so_far standing still = absurd standing
+    blocked (Drop s) Idle so_far standing still = absurd (false≢true still)
+    blocked (Drop s) (Seeking walk) so_far standing still = absurd standing
+    blocked (Drop s) (Removing from) so_far standing still = absurd standing
+    blocked (Drop s) Destroying so_far standing still = absurd standing
+    blocked (Drop s) (Putting done) so_far standing still = absurd standing
+    blocked (Drop s) (Running micro done) so_far standing still = absurd standing
+    blocked (Drop s) (Breaking done) so_far standing still = absurd standing
 
     -- a hart with a fence ends its line, or waits
     no_fence : lacked_by w hart ≡ None → (hart < length w.fences → is_still (turned_by (hart_turn digest_of w hart [] (hart_line w hart))) ≡ true) → fence_of w.fences hart ≡ None
@@ -210,7 +216,7 @@ module _ (digest_of : List ℕ → List ℕ) (w : WorldData) (k : Kept digest_of
 
     hart_blocked : (line : Line) → hart_line w hart ≡ Some line → is_still (turned_by (hart_turn digest_of w hart [] (hart_line w hart))) ≡ true → IsBlocked w hart line
     hart_blocked line here still =
-        blocked line (under_at w.under hart) refl (line_built w.setup hart (answered_at w.answered hart) line k.sizes.built here)
+        blocked line (under_at w.under hart) refl
         (subst (λ l. LineUnderWay w.setup (written_page w) (enclave_at w.enclaves) (state_of w).number hart l (under_at w.under hart)) here (k.stands.lines hart))
         (subst (λ l. is_still (turned_by (hart_turn digest_of w hart [] l)) ≡ true) here still)
 

@@ -1,5 +1,5 @@
 -- Accesses to an enclave's pages, by the page of its record that is located, are those of the flat machine.
-use Rattle.std.proofs.Common.{◌≡◌, ◌≢◌, ℕ, zero, suc, ◌%◌, Bool, true, false, cond, leb, List, [], ◌∷◌, set, Option, Some, None, option_and_then, slice_get, refl, ap, sym, ◌∙◌, arith, inl, inr}
+use Rattle.std.proofs.Common.{◌≡◌, ◌≢◌, ℕ, zero, suc, ◌%◌, Bool, true, false, cond, leb, nat_le, if◌then◌else◌, List, [], ◌∷◌, set, Option, Some, None, option_and_then, slice_get, refl, ap, sym, ◌∙◌, arith, inl, inr}
 use Rattle.std.specs.Option.{option_map}
 use Rattle.std.specs.Prelude.{Contains}
 use Rattle.std.specs.List.{All}
@@ -15,8 +15,13 @@ use Rattle.pl_base.specs.Pages.{first_twice}
 use Rattle.pl_base.specs.Perms.{grants}
 use Rattle.mon_image.specs.declared.page.ImagePage.{ImagePage}
 use Rattle.rv_alone.specs.Flat.{Page, page_number, number_in, page_with_number, permitted, fetched, read, stored}
-use Rattle.world_machine.specs.Pages.{flat_pages, page_for, located}
+use Rattle.world_machine.specs.Pages.{flat_pages, page_for}
 use Rattle.pl_base.proofs.DistinctPages.{stands_once}
+
+-- the page that an access goes to, by the numbers of the pages
+abbrev pub located : Kind → List ImagePage → List ℕ → ℕ → Option ℕ
+located kind image numbers address =
+    if nat_le IMAGE_START address then page_for kind (slice_get image (page_number address)) (slice_get numbers (page_number address)) else None
 
 -- a page of the image with its bytes
 abbrev pub joined : (ℕ → List ℕ) → Option ImagePage → Option ℕ → Option Page

@@ -1,5 +1,5 @@
 -- In a legal history a number that is free has nothing: no pages, no spares, no parent, no words, and nothing of it was taken or has retired.
-use Rattle.std.proofs.Common.{◌≡◌, ℕ, ◌==◌, Bool, true, false, if◌then◌else◌, List, [], Option, Some, None, refl, sym, ap, ◌∙◌, subst}
+use Rattle.std.proofs.Common.{◌≡◌, ℕ, ◌==◌, Bool, true, false, if◌then◌else◌, List, [], Option, None, refl, sym, ap, ◌∙◌, subst}
 use Rattle.pl_base.specs.Refusals.{refuse}
 use Rattle.pl_base.specs.States.{destroy_refusal, is_wordless, state_left}
 use Rattle.pl_base.specs.declared.refusal.No.{No}

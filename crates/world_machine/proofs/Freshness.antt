@@ -1,5 +1,5 @@
 -- Which mappings a hart may still use when mappings of the host come and go, and when fences are acknowledged.
-use Rattle.std.proofs.Common.{◌≡◌, ◌≢◌, ℕ, ◌+◌, ◌<◌, ◌≤◌, eqb, ltb, ◌&&◌, Bool, true, false, List, [], ◌∷◌, ◌++◌, length, filter, not, Option, Some, None, option_map, slice_set, refl, sym, ap, ◌∙◌, subst, arith, inl, inr}
+use Rattle.std.proofs.Common.{◌≡◌, ◌≢◌, ◌⊎◌, ℕ, ◌+◌, ◌<◌, ◌≤◌, eqb, ltb, ◌&&◌, Bool, true, false, List, [], ◌∷◌, ◌++◌, length, filter, not, Option, Some, None, option_map, slice_set, refl, sym, ap, ◌∙◌, subst, arith, inl, inr}
 use Rattle.std.proofs.lemmas.Bool.{cases_Bool, cond-false, eq-eqb, eqb-true, eqb-false, false≢true, lt-ltb, ne_eqb, not-true}
 use Rattle.std.proofs.lemmas.Nat.Bits.{bit_at-zero}
 use Rattle.std.specs.Int.{bit_at}
@@ -17,7 +17,7 @@ use Rattle.mon_tables.specs.Space.{Mapping, mapping_at, without_vpn}
 use Rattle.mon_tables.proofs.Mappings.{mapping_at-added_other, mapping_at-without_other, none_some, same_Some}
 use Rattle.pl_history.specs.Monitor.{Monitor, Removal}
 use Rattle.world_machine.specs.Acknowledging.{without_covered}
-use Rattle.world_machine.specs.FencesStand.{FenceStands, IsLeaving, IsOfHost, IsOpen, removals_by}
+use Rattle.world_machine.specs.FencesStand.{FenceStands, IsOfHost, IsOpen, IsOwed, removals_by}
 use Rattle.world_machine.specs.TranslationsAgree.{MayUse, entry_of}
 use Rattle.world_machine.proofs.FoundElements.{filtered_all}
 use Rattle.world_machine.proofs.Leaving.{number_not_host, same_fence}
@@ -39,6 +39,14 @@ pub other_uncovered : (space : Space) (vpn : Option Vpn) (entry : TlbEntry) → 
 other_uncovered space None entry other = ne_eqb entry.space.0 space.0 other
 other_uncovered space (Some vpn) entry other = ap (λ b. b && eqb entry.vpn.0 vpn.0) (ne_eqb entry.space.0 space.0 other)
 
+-- the fence of a number's whole space, or of the page, covers the translation
+pub covered_by : (e : ℕ) (m : Mapping) (vpn : Option Vpn) → (vpn ≡ None) ⊎ (vpn ≡ Some (record { 0 = m.vpn }))
+    → is_covered (record { 0 = e + 1 }) vpn (entry_of (record { 0 = e + 1 }) m) ≡ true
+covered_by e m vpn (inl whole) = ap (λ v. is_covered (record { 0 = e + 1 }) v (entry_of (record { 0 = e + 1 }) m)) whole ∙ eq-eqb (e + 1) (e + 1) refl
+covered_by e m vpn (inr page) =
+    ap (λ v. is_covered (record { 0 = e + 1 }) v (entry_of (record { 0 = e + 1 }) m)) page
+    ∙ ap (λ b. b && eqb m.vpn m.vpn) (eq-eqb (e + 1) (e + 1) refl) ∙ eq-eqb m.vpn m.vpn refl
+
 -- what follows for those that a fence doesn't cover holds of all that are left
 pub left_all : (P Q : TlbEntry → Type 0) (space : Space) (vpn : Option Vpn) → ((entry : TlbEntry) → is_covered space vpn entry ≡ false → P entry → Q entry) → (entries : List TlbEntry)
     → All P entries → All Q (without_covered entries space vpn)
@@ -46,14 +54,16 @@ left_all P Q space None follows entries all = filtered_all (λ entry. not (is_in
 left_all P Q space (Some vpn) follows entries all =
     filtered_all (λ entry. not (is_of space vpn entry)) P Q (λ entry passed. follows entry (not-true (is_of space vpn entry) passed)) entries all
 
--- a number that is leaving is so while another fence changes
-pub leaving_other : (fences : List (Option Fence)) (changed : ℕ) (now : Option Fence) (hart e : ℕ) (leaving : IsLeaving fences hart e) → leaving.poster ≢ changed → IsLeaving (slice_set fences changed now) hart e
-leaving_other fences changed now hart e leaving other = record {
-  poster = leaving.poster;
-  fence = leaving.fence;
-  is = fence_of-set_other fences changed leaving.poster now other ∙ leaving.is;
-  of_number = leaving.of_number;
-  needed = ap (λ f. needs f hart) (fence_of-set_other fences changed leaving.poster now other) ∙ leaving.needed;
+-- a fence that is owed is so while another fence changes
+pub owed_other : (fences : List (Option Fence)) (changed : ℕ) (now : Option Fence) (hart e vpn : ℕ) (owed : IsOwed fences hart e vpn) → owed.poster ≢ changed
+    → IsOwed (slice_set fences changed now) hart e vpn
+owed_other fences changed now hart e vpn owed other = record {
+  poster = owed.poster;
+  fence = owed.fence;
+  is = fence_of-set_other fences changed owed.poster now other ∙ owed.is;
+  of_number = owed.of_number;
+  of_page = owed.of_page;
+  needed = ap (λ f. needs f hart) (fence_of-set_other fences changed owed.poster now other) ∙ owed.needed;
 }
 
 -- ---- a mapping is added
@@ -164,7 +174,6 @@ module _ (fences : List (Option Fence)) (hart requester : ℕ) (fence : Fence) (
   acked_used s other m inside differ (inl at) = inl at
   acked_used s other m inside differ (inr opened) = inr (record { poster = opened.poster; removal = opened.removal; needed = needs_still other opened.poster inside differ opened.needed })
 
-  -- the hart itself may use what the fence isn't of
   -- the hart itself may use what the fence doesn't cover
   pub acked_used_own : (s : Monitor) (m : Mapping) → FenceStands (Some fence) (removals_by s.removals requester) → is_covered fence.space fence.vpn (entry_of host_space m) ≡ false
       → MayUse s fences hart m → MayUse s after hart m
@@ -179,45 +188,46 @@ module _ (fences : List (Option Fence)) (hart requester : ℕ) (fence : Fence) (
           let same : gone ≡ m = one_of gone m (sym removed ∙ removal) in
           false≢true (sym apart ∙ (λ i. is_covered (space i) (vpn i) (entry_of host_space m)) ∙ eq-eqb m.vpn gone.vpn (ap (λ (x : Mapping). x.vpn) (sym same)))
 
-  -- a number that leaves another hart, or of another space, is leaving still
-  pub acked_leaving : (other e : ℕ) → other < length fences → other ≢ hart → IsLeaving fences other e → IsLeaving after other e
-  acked_leaving other e inside differ leaving = still (needs_still other leaving.poster inside differ leaving.needed)
+  -- what another hart owes of a number's space it owes still, and so does this one of what the fence doesn't cover
+  pub acked_owed : (other e vpn : ℕ) → other < length fences → other ≢ hart → IsOwed fences other e vpn → IsOwed after other e vpn
+  acked_owed other e vpn inside differ owed = still (needs_still other owed.poster inside differ owed.needed)
     where
-      still : needs (fence_of after leaving.poster) other ≡ true → IsLeaving after other e
-      still needed = elim (cases_Bool (eqb leaving.poster requester)) [
+      still : needs (fence_of after owed.poster) other ≡ true → IsOwed after other e vpn
+      still needed = elim (cases_Bool (eqb owed.poster requester)) [
         | inr apart ↦ record {
-          poster = leaving.poster;
-          fence = leaving.fence;
-          is = fence_of-set_other fences requester leaving.poster _ (eqb-false leaving.poster requester apart) ∙ leaving.is;
-          of_number = leaving.of_number;
+          poster = owed.poster;
+          fence = owed.fence;
+          is = fence_of-set_other fences requester owed.poster _ (eqb-false owed.poster requester apart) ∙ owed.is;
+          of_number = owed.of_number;
+          of_page = owed.of_page;
           needed = needed;
         }
         | inl same ↦
-            let p : leaving.poster ≡ requester = eqb-true leaving.poster requester same in
-            let fence_is : leaving.fence ≡ fence = same_fence leaving.fence fence (sym leaving.is ∙ ap (fence_of fences) p ∙ is) in
+            let p : owed.poster ≡ requester = eqb-true owed.poster requester same in
+            let fence_is : owed.fence ≡ fence = same_fence owed.fence fence (sym owed.is ∙ ap (fence_of fences) p ∙ is) in
             record {
-              poster = leaving.poster;
+              poster = owed.poster;
               fence = without_need hart fence;
               is = ap (fence_of after) p ∙ acked_same;
-              of_number = (sym (ap (λ (x : Fence). x.space) fence_is) ∙ leaving.of_number.0, sym (ap (λ (x : Fence). x.vpn) fence_is) ∙ leaving.of_number.1);
+              of_number = sym (ap (λ (x : Fence). x.space) fence_is) ∙ owed.of_number;
+              of_page = subst (λ (x : Fence). (x.vpn ≡ None) ⊎ (x.vpn ≡ Some (record { 0 = vpn }))) fence_is owed.of_page;
               needed = needed;
             }
       ]
 
-  pub acked_leaving_own : (e : ℕ) (m : Mapping) → is_covered fence.space fence.vpn (entry_of (record { 0 = e + 1 }) m) ≡ false → IsLeaving fences hart e → IsLeaving after hart e
-  acked_leaving_own e m apart leaving =
-      let other : leaving.poster ≢ requester = λ same. covers_it (same_fence leaving.fence fence (sym leaving.is ∙ ap (fence_of fences) same ∙ is)) in
-      leaving_other fences requester _ hart e leaving other
+  pub acked_owed_own : (e : ℕ) (m : Mapping) → is_covered fence.space fence.vpn (entry_of (record { 0 = e + 1 }) m) ≡ false → IsOwed fences hart e m.vpn → IsOwed after hart e m.vpn
+  acked_owed_own e m apart owed =
+      owed_other fences requester _ hart e m.vpn owed (λ same. covers_it (same_fence owed.fence fence (sym owed.is ∙ ap (fence_of fences) same ∙ is)) owed.of_page)
     where
-      covers_it : leaving.fence ≡ fence → ⊥
-      covers_it same =
-          let space : fence.space ≡ record { 0 = e + 1 } = sym (ap (λ (x : Fence). x.space) same) ∙ leaving.of_number.0 in
-          let whole : fence.vpn ≡ None = sym (ap (λ (x : Fence). x.vpn) same) ∙ leaving.of_number.1 in
-          false≢true (sym apart ∙ (λ i. is_covered (space i) (whole i) (entry_of (record { 0 = e + 1 }) m)) ∙ eq-eqb (e + 1) (e + 1) refl)
+      covers_it : owed.fence ≡ fence → (owed.fence.vpn ≡ None) ⊎ (owed.fence.vpn ≡ Some (record { 0 = m.vpn })) → ⊥
+      covers_it same of_page =
+          let space : fence.space ≡ record { 0 = e + 1 } = sym (ap (λ (x : Fence). x.space) same) ∙ owed.of_number in
+          false≢true (sym apart ∙ ap (λ s. is_covered s fence.vpn (entry_of (record { 0 = e + 1 }) m)) space
+          ∙ covered_by e m fence.vpn (subst (λ (x : Fence). (x.vpn ≡ None) ⊎ (x.vpn ≡ Some (record { 0 = m.vpn }))) same of_page))
 
 -- ---- the fence of a hart changes that has none of a number
 
 module _ (fences : List (Option Fence)) (poster : ℕ) (now : Option Fence) (of_host : IsOfHost (fence_of fences poster)) where
-  pub leaving_still : (hart e : ℕ) → IsLeaving fences hart e → IsLeaving (slice_set fences poster now) hart e
-  leaving_still hart e leaving =
-      leaving_other fences poster now hart e leaving (λ same. number_not_host leaving.fence e leaving.of_number (subst IsOfHost (ap (fence_of fences) (sym same) ∙ leaving.is) of_host))
+  pub owed_still : (hart e vpn : ℕ) → IsOwed fences hart e vpn → IsOwed (slice_set fences poster now) hart e vpn
+  owed_still hart e vpn owed =
+      owed_other fences poster now hart e vpn owed (λ same. number_not_host owed.fence e owed.of_number (subst IsOfHost (ap (fence_of fences) (sym same) ∙ owed.is) of_host))

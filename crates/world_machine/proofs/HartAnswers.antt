@@ -25,6 +25,10 @@ use Rattle.mon_life.specs.Destroying.{DestroyBegun, destroy_begun}
 use Rattle.mon_life.specs.Making.{CreateBegun, create_begun}
 use Rattle.mon_life.specs.Putting.{CreatePut, create_put}
 use Rattle.mon_life.specs.Running.{RunBegun, run_begun}
+use Rattle.mon_shadow.specs.Breaking.{PageBroken, page_broken}
+use Rattle.mon_shadow.specs.Dropping.{ShadowDropped, shadow_dropped}
+use Rattle.mon_shadow.specs.Forking.{fork_begun}
+use Rattle.mon_shadow.specs.Granting.{grant_made}
 use Rattle.rv_alone.specs.declared.step.Act.{Act}
 use Rattle.rv_alone.specs.declared.step.Act.TheVariants.{Set, Load, Store, Call, Trap}
 use Rattle.rv_alone.specs.Effect.{act_of, advanced, loaded, with_register}
@@ -44,12 +48,12 @@ use Rattle.world_machine.specs.declared.under.Under.TheVariants.{Putting}
 use Rattle.world_machine.specs.Acknowledging.{acknowledged}
 use Rattle.world_machine.specs.Adding.{AddsAtMostOne}
 use Rattle.world_machine.specs.Answering.{answers, decided, goes_on, quiet}
-use Rattle.world_machine.specs.GivingBack.{begins_destroy, destroys_unless}
+use Rattle.world_machine.specs.GivingBack.{begins_destroy, destroys_unless, drops_shadow}
 use Rattle.world_machine.specs.HostAccessing.{WordAccess, accesses_host, begins_access, host_faults, host_learns, host_request, kind_of, loads, made, reaches_host, stores}
 use Rattle.world_machine.specs.HostMapping.{begins_unmap, mapped, maps, unmapped}
-use Rattle.world_machine.specs.Making.{begin_create, begins_unless, image_of, put_next}
-use Rattle.world_machine.specs.Pages.{part_of_word, word_offset}
-use Rattle.world_machine.specs.Running.{RunNow, acts, begin_run, calls, faults, fetched_in, fetches_next, leaves, loads_in, reaches, receives, retired_with, retires, run_event, run_learns, run_request, run_translates, stores_in}
+use Rattle.world_machine.specs.Making.{answers_by, begin_create, begin_fork, begins_unless, grants_page, image_of, put_next}
+use Rattle.world_machine.specs.Pages.{part_of_word, to_break, word_offset}
+use Rattle.world_machine.specs.Running.{RunNow, acts, begin_run, breaks_done, breaks_or_leaves, calls, faults, faults_by, fetched_in, fetches_next, leaves, loads_in, page_faults, perms_at, reaches, receives, restarts, retired_with, retires, run_event, run_learns, run_request, run_translates, stores_in}
 use Rattle.world_machine.specs.Talking.{changes_unless}
 use Rattle.world_machine.specs.Translating.{Request, offset_at, page_at, reads_table, sought_in, translated}
 use Rattle.world_machine.specs.Worlds.{Event, WorldData, answered_at, tlb_at, with_tlb}
@@ -97,10 +101,29 @@ module _ (digest_of : List ℕ → List ℕ) (w : WorldData) (hart : ℕ) where
   changes_adds (Some cause) e r now = answer_adds (answer_is.No cause) _ refl refl
   changes_adds None e r now = answer_adds now _ refl refl
 
-  pub create_adds : (e image : ℕ) (pages : List ℕ) → Adds w hart (begin_create w hart e image pages).world
-  create_adds e image pages =
-      let begun : CreateBegun = create_begun w.owners w.enclaves (pmp_of w.setup) e image (image_of w.setup image) pages false in
+  pub create_adds : (e image : ℕ) (pages : List ℕ) (shadow : Bool) → Adds w hart (begin_create w hart e image pages shadow).world
+  create_adds e image pages shadow =
+      let begun : CreateBegun = create_begun w.owners w.enclaves (pmp_of w.setup) e image (image_of w.setup image) pages shadow in
       begins_adds begun.refusal (record w { owners = begun.owners; enclaves = begun.enclaves }) (Putting 0) refl refl refl
+
+  pub fork_adds : (shadow : EncNo) (e : ℕ) (pages : List ℕ) → Adds w hart (begin_fork w hart shadow e pages).world
+  fork_adds shadow e pages =
+      let begun : CreateBegun = fork_begun w.owners w.enclaves (pmp_of w.setup) shadow e pages in
+      begins_adds begun.refusal (record w { owners = begun.owners; enclaves = begun.enclaves }) _ refl refl refl
+
+  -- lines that are answered at once
+  done_adds : (o : Option No) (ctl : CtlData) (owners : List Owner) (enclaves : List Enclave)
+      → Adds w hart (answers_by o (record w { ctl = ctl; owners = owners; enclaves = enclaves }) hart)
+  done_adds (Some cause) ctl owners enclaves = answer_adds (answer_is.No cause) _ refl refl
+  done_adds None ctl owners enclaves = answer_adds answer_is.Ok _ refl refl
+
+  pub grant_adds : (e page : ℕ) → Adds w hart (grants_page w hart e page).world
+  grant_adds e page = let made : CreateBegun = grant_made w.owners w.enclaves (pmp_of w.setup) e page in done_adds made.refusal w.ctl made.owners made.enclaves
+
+  pub drop_adds : (shadow : ℕ) → Adds w hart (drops_shadow w hart shadow).world
+  drop_adds shadow =
+      let dropped : ShadowDropped = shadow_dropped w.ctl w.owners w.enclaves shadow in
+      done_adds dropped.refusal dropped.ctl dropped.owners dropped.enclaves
 
   pub begin_adds : (e : ℕ) (first : Bool) → Adds w hart (begin_run w hart e first).world
   begin_adds e first =
@@ -188,10 +211,14 @@ module _ (digest_of : List ℕ → List ℕ) (w : WorldData) (hart : ℕ) where
   acknowledged_adds requester None = nothing_adds w hart w refl refl
   acknowledged_adds requester (Some fence) = nothing_adds w hart (acknowledged w hart requester (Some fence)) refl refl
 
+  -- nor does an instruction that starts anew
+  pub restart_adds : (count : ℕ) → Adds w hart (restarts w hart count)
+  restart_adds count = nothing_adds w hart (restarts w hart count) refl refl
+
   -- a number that is being made
-  pub put_adds : (positions : List ℕ) (e image done : ℕ) → Adds w hart (put_next digest_of w hart positions e image done).world
-  put_adds positions e image done =
-      let step : CreatePut = create_put digest_of w.setup.tables e (image_of w.setup image) false done w.enclaves (going w.ctl positions) in
+  pub put_adds : (positions : List ℕ) (e image : ℕ) (shadow : Bool) (done : ℕ) → Adds w hart (put_next digest_of w hart positions e image shadow done).world
+  put_adds positions e image shadow done =
+      let step : CreatePut = create_put digest_of w.setup.tables e (image_of w.setup image) shadow done w.enclaves (going w.ctl positions) in
       let left : WorldData = record w { ctl = step.put.after.ctl; enclaves = step.enclaves } in
       decided_adds w hart left (λ last. if last then answers left hart answer_is.Ok else goes_on left hart (Putting (done + 1)))
       (λ place. answers left hart (answer_is.No (refused.Fault place))) step.put.outcome refl refl
@@ -234,8 +261,25 @@ module _ (digest_of : List ℕ → List ℕ) (w : WorldData) (hart : ℕ) where
       act_adds word (Trap cause value) = leave_adds r count (why_is.Trapped cause value)
 
     module _ (positions : List ℕ) where
+      -- no page serves an access: a page is broken, or the run leaves
+      break_adds : (index : ℕ) (spares : List ℕ) → Adds w hart (breaks_or_leaves digest_of w run r positions index spares).world
+      break_adds index [] = leave_adds w.ctl r count _
+      break_adds index (spare ∷ spares) =
+          let broken : PageBroken =
+          page_broken digest_of w.setup.tables hart (record { 0 = e }) index (perms_at w.setup r index) w.enclaves w.fences (going w.ctl positions) in
+          let now : WorldData = record w { ctl = broken.step.after.ctl; enclaves = broken.enclaves; fences = broken.fences } in
+          decided_adds w hart now (λ done. breaks_done now run index) (faults run r now) broken.step.outcome refl refl
+          (λ done. nothing_adds w hart (breaks_done now run index) refl refl) (λ place. answer_adds (answer_is.Left count (why_is.Fault place)) _ refl refl)
+
+      fault_adds : (access : Kind) (address : ℕ) → Adds w hart (page_faults digest_of w run r positions access address).world
+      fault_adds access address = by_place (to_break access (image_of w.setup r.image).pages r.pages address)
+        where
+          by_place : (o : Option ℕ) → Adds w hart (faults_by digest_of w run r positions access address o).world
+          by_place None = leave_adds w.ctl r count _
+          by_place (Some index) = break_adds index r.spares
+
       fetch_adds : (o : Option ℕ) → Adds w hart (fetched_in digest_of w run r positions o).world
-      fetch_adds None = leave_adds w.ctl r count _
+      fetch_adds None = fault_adds kind.Fetch r.context.pc
       fetch_adds (Some page) =
           let access : After ℕ = read_word_of digest_of page (word_offset r.context.pc) (going w.ctl positions) in
           let now : WorldData = record w { ctl = access.after.ctl } in
@@ -244,7 +288,7 @@ module _ (digest_of : List ℕ → List ℕ) (w : WorldData) (hart : ℕ) where
           (λ place. leave_adds access.after.ctl r count _)
 
       load_adds : (address width : ℕ) (is_signed : Bool) (rd : ℕ) (o : Option ℕ) → Adds w hart (loads_in digest_of w run r positions address width is_signed rd o).world
-      load_adds address width is_signed rd None = leave_adds w.ctl r count _
+      load_adds address width is_signed rd None = fault_adds kind.Load address
       load_adds address width is_signed rd (Some page) =
           let access : After ℕ = read_word_of digest_of page (word_offset address) (going w.ctl positions) in
           let now : WorldData = record w { ctl = access.after.ctl } in
@@ -252,7 +296,7 @@ module _ (digest_of : List ℕ → List ℕ) (w : WorldData) (hart : ℕ) where
           (λ eight. retire_adds access.after.ctl _) (λ place. leave_adds access.after.ctl r count _)
 
       store_adds : (address width value : ℕ) (o : Option ℕ) → Adds w hart (stores_in digest_of w run r positions address width value o).world
-      store_adds address width value None = leave_adds w.ctl r count _
+      store_adds address width value None = fault_adds kind.Store address
       store_adds address width value (Some page) =
           let access : After (Unit {0}) = write_part_of digest_of page (address % 4096) width value (going w.ctl positions) in
           let now : WorldData = record w { ctl = access.after.ctl } in
@@ -282,4 +326,4 @@ module _ (digest_of : List ℕ → List ℕ) (w : WorldData) (hart : ℕ) where
       pub run_adds : (micro : Micro) → Adds w hart (run_event digest_of w run r positions micro).world
       run_adds (Fetching walk) = translates_adds Fetching walk r.context.pc kind.Fetch (fetched_in digest_of w run r positions) fetch_adds
       run_adds (Reaching word walk) = reach_adds word walk (act_of r.context word)
-      run_adds (Faulting va access) = leave_adds w.ctl r count _
+      run_adds (Faulting va access) = fault_adds access va

@@ -32,7 +32,7 @@ module _ (digest_of : List ℕ → List ℕ) (law : HasDigests digest_of) (room_
     (below : hart < w.setup.harts) (va : Va) (access : WordAccess) (here : hart_line w hart ≡ Some (access_line va access)) where
   -- the next event of the walk
   module _ (positions : List ℕ) (walk : Walk) (is : IsAccess w hart va access walk) where
-    stands : WalkStands w.ctl (IsFresh w.setup (state_of w) w.fences hart) (host_view w.setup.tables) va walk
+    stands : WalkStands w.ctl (IsFresh w.setup (enclave_at w.enclaves) (state_of w) w.fences hart) (host_view w.setup.tables) va walk
     stands = access_walk_stands digest_of w k hart va access walk is
 
     by_sought : (x : Sought) → sought_in w (host_request w hart va access) walk ≡ x

@@ -96,7 +96,7 @@ module _ (digest_of : List ℕ → List ℕ) (w : WorldData) (k : Kept digest_of
 
 module _ (digest_of : List ℕ → List ℕ) (w : WorldData) (k : Kept digest_of w) (hart : ℕ) (va : Va) (access : WordAccess) (walk : Walk) (is : IsAccess w hart va access walk) where
   abbrev Fresh : TlbEntry → Type 0
-  Fresh = IsFresh w.setup (state_of w) w.fences hart
+  Fresh = IsFresh w.setup (enclave_at w.enclaves) (state_of w) w.fences hart
 
   pub access_line_is : HostLine w hart (access_line va access) va
   access_line_is = line_by digest_of w k hart va access is.here walk is.so_far

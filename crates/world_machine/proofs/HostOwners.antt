@@ -39,13 +39,23 @@ module _ (owners : List Owner) (page before after : ℕ) (is : slice_get owners 
     | inr differs ↦ sym (other p (eqb-false p page differs)) ∙ stands
   ]
 
+  -- whose pages these are stays
+  pub remapped_owner : (p : ℕ) → option_map owner_of (slice_get owners' p) ≡ option_map owner_of (slice_get owners p)
+  remapped_owner p = elim (cases_Bool (eqb p page)) [
+    | inl same_page ↦
+        let p_is : p ≡ page = eqb-true p page same_page in
+        ap (λ q. option_map owner_of (slice_get owners' q)) p_is ∙ ap (option_map owner_of) here
+        ∙ sym (ap (option_map owner_of) is) ∙ ap (λ q. option_map owner_of (slice_get owners q)) (sym p_is)
+    | inr differs ↦ ap (option_map owner_of) (other p (eqb-false p page differs))
+  ]
+
   pub remapped_pool : length owners' ≡ length owners
   remapped_pool = length-set owners page (owner_is.Host after)
 
   -- where the monitor counts as many mappings of the page, and as many as before of each other
   pub remapped_agree : (s s' : Monitor) → OwnersAgree owners s → ((p : ℕ) → s'.owner p ≡ s.owner p) → maps_of s' page ≡ after → ((p : ℕ) → p ≢ page → maps_of s' p ≡ maps_of s p) → OwnersAgree owners' s'
   remapped_agree s s' agree same own others = record {
-    owner = λ p. same p ∙ agree.owner p ∙ sym (owner_same p);
+    owner = λ p. same p ∙ agree.owner p ∙ sym (remapped_owner p);
     maps = λ p maps stands. elim (cases_Bool (eqb p page)) [
       | inl same_page ↦
           let p_is : p ≡ page = eqb-true p page same_page in
@@ -56,15 +66,6 @@ module _ (owners : List Owner) (page before after : ℕ) (is : slice_get owners 
           agree.maps p maps (sym (other p apart) ∙ stands) ∙ sym (others p apart)
     ];
   }
-    where
-      owner_same : (p : ℕ) → option_map owner_of (slice_get owners' p) ≡ option_map owner_of (slice_get owners p)
-      owner_same p = elim (cases_Bool (eqb p page)) [
-        | inl same_page ↦
-            let p_is : p ≡ page = eqb-true p page same_page in
-            ap (λ q. option_map owner_of (slice_get owners' q)) p_is ∙ ap (option_map owner_of) here
-            ∙ sym (ap (option_map owner_of) is) ∙ ap (λ q. option_map owner_of (slice_get owners q)) (sym p_is)
-        | inr differs ↦ ap (option_map owner_of) (other p (eqb-false p page differs))
-      ]
 
 -- the monitor's calls are such changes
 pub with_map-is : (owners : List Owner) (page maps : ℕ) → slice_get owners page ≡ Some (owner_is.Host maps) → with_map owners page ≡ set owners page (owner_is.Host (maps + 1))

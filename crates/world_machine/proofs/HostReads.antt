@@ -23,6 +23,7 @@ use Rattle.mem_ctl.specs.Calls.{read_word_of}
 use Rattle.mem_ctl.specs.Data.{After, CtlData, going}
 use Rattle.mem_ctl.specs.Laws.{ReadsTell, WordIsRead}
 use Rattle.mem_ctl.specs.Writes.{word_at}
+use Rattle.mon_enclave.specs.Records.{enclave_at}
 use Rattle.mon_host.specs.Laws.{mirror_words}
 use Rattle.mon_host.proofs.SpaceLemmas.{word_of_page}
 use Rattle.pl_history.specs.declared.answer.Answer.TheVariants as answer_is
@@ -61,7 +62,7 @@ module _ (digest_of : List ℕ → List ℕ) (room_stays : RoomStays) (w : World
   entries = tlb_at w.tlbs hart
 
   abbrev Fresh : TlbEntry → Type 0
-  Fresh = IsFresh w.setup s w.fences hart
+  Fresh = IsFresh w.setup (enclave_at w.enclaves) s w.fences hart
 
   walk_stands : WalkStands w.ctl Fresh view va walk
   walk_stands = access_walk_stands digest_of w k hart va access walk is

@@ -1,7 +1,6 @@
 -- An event of a hart with a line of the host: it may change the host's last-level tables, mappings and bytes, and changes no enclave number.
 use Rattle.std.proofs.Common.{◌≡◌, ◌≢◌, ℕ, ◌+◌, ◌*◌, ◌<◌, ◌≤◌, false, List, length, slice_get, Option, Some, None, refl, sym, ap, ◌∙◌, subst, arith, inl, inr}
 use Rattle.std.proofs.lemmas.Bool.{cases_lt}
-use Rattle.std.specs.Prelude.{Contains}
 use Rattle.pl_base.specs.States.{is_free}
 use Rattle.rv_tlb.specs.declared.tlb.TlbEntry.{TlbEntry}
 use Rattle.mem_ctl.specs.Data.{CtlData}
@@ -13,18 +12,21 @@ use Rattle.mon_owner.specs.declared.owners.Owner.{Owner}
 use Rattle.mon_owner.specs.declared.owners.Owner.TheVariants as owner_is
 use Rattle.mon_tables.specs.Tables.{table_number}
 use Rattle.pl_history.specs.History.{HistoryData}
-use Rattle.pl_history.specs.Monitor.{Monitor, Number, script_of}
+use Rattle.pl_history.specs.Monitor.{Attack, Monitor, Number, script_of}
 use Rattle.world_machine.specs.declared.under.Under.{Under}
 use Rattle.world_machine.specs.BytesAgree.{ByteAgrees, HasPut, HostBytesAgree, OnlyAttacksDiffer, PageAgrees}
-use Rattle.world_machine.specs.EnclavesAgree.{EnclavesAgree, IsOwn}
+use Rattle.world_machine.specs.EnclavesAgree.{EnclavesAgree, IsOwn, is_made}
 use Rattle.world_machine.specs.LinesUnderWay.{LineUnderWay, number_under_way}
+use Rattle.world_machine.specs.PagesAgree.{PagesAgree, PagesAre}
 use Rattle.world_machine.specs.RecordsAgree.{OwnersAgree, RecordAgrees, RecordsAgree}
 use Rattle.world_machine.specs.Standing.{Kept, state_of, written_page}
 use Rattle.world_machine.specs.TranslationsAgree.{TranslationsStand}
 use Rattle.world_machine.specs.Worlds.{WorldData, hart_line, under_at}
+use Rattle.world_machine.proofs.ForkedNumbers.{childless}
 use Rattle.world_machine.proofs.Frames.{Frame, enclaves_frame, line_frame}
 use Rattle.world_machine.proofs.LineMoves.{LineMoves}
-use Rattle.world_machine.proofs.NumberRows.{owned_within, table_guard}
+use Rattle.world_machine.proofs.NumberRows.{own_guard, own_within, owned_within, table_guard}
+use Rattle.world_machine.proofs.PagesStay.{pages_over}
 use Rattle.world_machine.proofs.RowKept.{RowFacts, attacks_frame, line_after, row_kept, with_parts}
 use Rattle.world_machine.proofs.SetupFacts.{used_there}
 use Rattle.world_machine.proofs.UnderWay.{line_used}
@@ -63,7 +65,7 @@ module _ (digest_of : List ℕ → List ℕ) (w : WorldData) (k : Kept digest_of
   -- a page of a number stands behind the host's tables
   own_behind : (e page : ℕ) → IsOwn w.owners e page → 2 + w.setup.tables ≤ page
   own_behind e page own = elim (cases_lt page (2 + w.setup.tables)) [
-    | inl before ↦ (let clash : Some (owner_is.Enclave (record { 0 = e })) ≡ Some owner_is.Guard = sym own ∙ k.sizes.guarded page (omega arith) in cc)
+    | inl before ↦ absurd (own_guard digest_of w k e page own (k.sizes.guarded page (omega arith)))
     | inr behind ↦ behind
   ]
 
@@ -72,9 +74,10 @@ module _ (digest_of : List ℕ → List ℕ) (w : WorldData) (k : Kept digest_of
     records = λ e other. refl;
     numbers = λ e other. f.numbers e;
     owned = λ e page other is. f.owned e page is;
-    own_bytes = λ e page other is. f.pages page (own_behind e page is) (owned_within digest_of w k page (owner_is.Enclave (record { 0 = e })) is);
+    own_bytes = λ e page other is. f.pages page (own_behind e page is) (own_within digest_of w k e page is);
     table_bytes = λ e level other few low. f.pages (table_number w.setup.tables e level) (omega arith)
         (owned_within digest_of w k (table_number w.setup.tables e level) owner_is.Guard (table_guard digest_of w k e level few));
+    childless = λ e shadow other parent. childless digest_of w k past (λ sealed. not_past past (ap is_free sealed) refl) e shadow parent;
   }
 
   pub records : RecordsAgree (enclave_at w.enclaves) s'.number
@@ -83,6 +86,10 @@ module _ (digest_of : List ℕ → List ℕ) (w : WorldData) (k : Kept digest_of
   pub enclaves_agree : EnclavesAgree w.setup (page_bytes ctl.mirror) owners (enclave_at w.enclaves) s'.number
   enclaves_agree = enclaves_frame w.setup past (enclave_at w.enclaves) (enclave_at w.enclaves) s.number s'.number (written_page w) (page_bytes ctl.mirror) w.owners owners frame k.stands.enclaves
       (λ used. absurd (not_past past used refl))
+
+  pages_agree : PagesAgree w.setup (enclave_at w.enclaves) s'.number
+  pages_agree e = subst (PagesAre w.setup s'.number (enclave_at w.enclaves e)) (sym (f.numbers e))
+      (pages_over w.setup s.number s'.number (enclave_at w.enclaves e) (s.number e) (λ shadow parent. ap (λ (n : Number). n.pages) (f.numbers shadow)) (k.stands.pages e))
 
   module _ (tlbs : List (List TlbEntry)) (fences : List (Option Fence)) (under : List Under) (answered : List ℕ) (history : HistoryData) (u : Under) (count : ℕ)
       (moves : LineMoves w hart under answered history s' u count)
@@ -97,17 +104,20 @@ module _ (digest_of : List ℕ → List ℕ) (w : WorldData) (k : Kept digest_of
     no_put_own page put = no_put page (subst (λ l. HasPut l u page) line_own (subst (λ v. HasPut (line_after w answered hart) v page) moves.under_change.here put))
 
     -- the bytes of a number that there isn't: it has no pages
-    attacks : OnlyAttacksDiffer w.setup.zones ctl.off_chip ctl.mirror s'.attacks owners s'.number (line_after w answered) (under_at under)
-    attacks = subst (λ a. OnlyAttacksDiffer w.setup.zones ctl.off_chip ctl.mirror a owners s'.number (line_after w answered) (under_at under)) (sym f.attacks)
-        (attacks_frame w.setup.zones w.ctl.off_chip w.ctl.mirror ctl.off_chip ctl.mirror s.attacks s.attacks w.owners owners s.number s'.number
-        (hart_line w) (line_after w answered) (under_at w.under) (under_at under) hart past f.bytes
+    abbrev Differ : List Attack → Type 0
+    Differ now = OnlyAttacksDiffer w.setup.zones ctl.off_chip ctl.mirror now owners (enclave_at w.enclaves) s'.number (line_after w answered) (under_at under)
+
+    attacks : Differ s'.attacks
+    attacks = subst Differ (sym f.attacks)
+        (attacks_frame w.setup.zones w.ctl.off_chip w.ctl.mirror ctl.off_chip ctl.mirror s.attacks s.attacks w.owners owners (enclave_at w.enclaves) (enclave_at w.enclaves)
+        s.number s'.number (hart_line w) (line_after w answered) (under_at w.under) (under_at under) hart past f.bytes
         (record {
           guarded = f.guards;
-          lives = λ e other. ap (λ (n : Number). n.live) (f.numbers e);
-          pages = λ e other. ap (λ (n : Number). n.pages) (f.numbers e);
+          made = λ e other. ap is_made (f.numbers e);
+          pages = λ e other. refl;
           lines = λ other differs. ap (slice_get (script_of w.setup other)) (moves.answered_change.others other differs);
           unders = moves.under_change.others;
-          live_own = λ page is live. page_left page (k.stands.attacks.live page past (subst (λ (n : Number). Contains n.pages page) (f.numbers past) is) (ap (λ (n : Number). n.live) (sym (f.numbers past)) ∙ live));
+          made_own = λ page is made. page_left page (k.stands.attacks.made page past is (ap is_made (sym (f.numbers past)) ∙ made));
           put_own = λ page put. absurd (no_put_own page put);
         })
         k.stands.attacks)
@@ -122,6 +132,7 @@ module _ (digest_of : List ℕ → List ℕ) (w : WorldData) (k : Kept digest_of
       trees = f.kept;
       owners_agree = f.owners_agree;
       records = records;
+      pages_agree = pages_agree;
       enclaves_agree = enclaves_agree;
       host = f.host;
       attacks = attacks;

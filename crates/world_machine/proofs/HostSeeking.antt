@@ -33,7 +33,7 @@ module _ (digest_of : List ℕ → List ℕ) (room_stays : RoomStays) (w : World
   s = state_of w
 
   abbrev Fresh : TlbEntry → Type 0
-  Fresh = IsFresh w.setup s w.fences hart
+  Fresh = IsFresh w.setup (enclave_at w.enclaves) s w.fences hart
 
   -- a hart's TLB has other translations that it may use
   pub tlb_kept : (entries : List TlbEntry) → All Fresh entries → Kept digest_of (with_tlb w hart entries)
@@ -46,6 +46,7 @@ module _ (digest_of : List ℕ → List ℕ) (room_stays : RoomStays) (w : World
         trees = k.trees;
         owners_agree = k.stands.owners;
         records = k.stands.records;
+        pages_agree = k.stands.pages;
         enclaves_agree = k.stands.enclaves;
         host = k.stands.host;
         attacks = k.stands.attacks;
@@ -59,9 +60,9 @@ module _ (digest_of : List ℕ → List ℕ) (room_stays : RoomStays) (w : World
           removals = k.stands.translations.removals;
           giving = k.stands.translations.giving;
           fresh = record {
-            entries = everywhere (λ h. All (IsFresh w.setup s w.fences h) (tlb_at (slice_set w.tlbs hart entries) h)) hart
+            entries = everywhere (λ h. All (IsFresh w.setup (enclave_at w.enclaves) s w.fences h) (tlb_at (slice_set w.tlbs hart entries) h)) hart
                 (subst (All Fresh) (sym changes.here) all)
-                (λ other differs. subst (All (IsFresh w.setup s w.fences other)) (sym (changes.others other differs)) (k.stands.translations.fresh.entries other));
+                (λ other differs. subst (All (IsFresh w.setup (enclave_at w.enclaves) s w.fences other)) (sym (changes.others other differs)) (k.stands.translations.fresh.entries other));
             walks = k.stands.translations.fresh.walks;
           };
         };
@@ -95,6 +96,7 @@ module _ (digest_of : List ℕ → List ℕ) (room_stays : RoomStays) (w : World
           trees = k.trees;
           owners_agree = k.stands.owners;
           records = k.stands.records;
+          pages_agree = k.stands.pages;
           enclaves_agree = k.stands.enclaves;
           host = k.stands.host;
           attacks = attacks_live w hart s now w.answered digest_of k refl (λ e. refl) (λ e. refl) (λ other differs. refl) moves.under_change.others
@@ -111,9 +113,9 @@ module _ (digest_of : List ℕ → List ℕ) (room_stays : RoomStays) (w : World
             giving = giving_stays digest_of w k hart (hart_line w) (under_at now) (λ other differs. refl) moves.under_change.others waited (ap isnt_waiting moves.under_change.here);
             fresh = record {
               entries = k.stands.translations.fresh.entries;
-              walks = everywhere (λ h. WalkingStands w.ctl (IsFresh w.setup s w.fences h) (walking w.setup.tables (enclave_at w.enclaves) (hart_line w h) (under_at now h))) hart
+              walks = everywhere (λ h. WalkingStands w.ctl (IsFresh w.setup (enclave_at w.enclaves) s w.fences h) (walking w.setup.tables (enclave_at w.enclaves) (hart_line w h) (under_at now h))) hart
                   (subst (λ x. WalkingStands w.ctl Fresh (walking w.setup.tables (enclave_at w.enclaves) (hart_line w hart) x)) (sym moves.under_change.here) walk_own)
-                  (λ other differs. subst (λ x. WalkingStands w.ctl (IsFresh w.setup s w.fences other) (walking w.setup.tables (enclave_at w.enclaves) (hart_line w other) x))
+                  (λ other differs. subst (λ x. WalkingStands w.ctl (IsFresh w.setup (enclave_at w.enclaves) s w.fences other) (walking w.setup.tables (enclave_at w.enclaves) (hart_line w other) x))
                   (sym (moves.under_change.others other differs)) (k.stands.translations.fresh.walks other));
             };
           };

@@ -2,12 +2,13 @@
 use Rattle.std.proofs.Common.{◌≡◌, ◌≢◌, ◌⊎◌, ℕ, ◌+◌, ◌*◌, ◌%◌, ◌<◌, ◌≤◌, eqb, true, false, List, length, take, slice_get, Option, Some, None, option_map, refl, sym, ap, ◌∙◌, subst, arith, inl, inr}
 use Rattle.std.specs.Prelude.{Contains, slice_set, if◌then◌else◌}
 use Rattle.std.proofs.lemmas.Bool.{cases_Bool, cases_lt, eqb-false, eqb-true, false≢true}
-use Rattle.std.proofs.lemmas.List.Elements.{All-contains, All-contains_itself, All-take, Contains-append_left}
+use Rattle.std.proofs.lemmas.List.Elements.{All-contains, All-contains_itself, All-take}
 use Rattle.byteorder.specs.Endian.{little_bytes}
 use Rattle.byteorder.specs.Numbers.{length-bytes_low_first}
 use Rattle.pl_base.specs.Address.{vpn_of}
 use Rattle.pl_base.specs.Bytes.{with_bytes}
 use Rattle.pl_base.specs.declared.address.Va.{Va}
+use Rattle.pl_base.specs.States.{is_free}
 use Rattle.mem_geom.specs.Layout.{memory_size}
 use Rattle.mem_geom.specs.Parts.{page_bytes}
 use Rattle.mem_geom.proofs.Parts.{length-with_bytes}
@@ -22,13 +23,11 @@ use Rattle.mon_owner.specs.declared.owners.Owner.TheVariants as owner_is
 use Rattle.mon_tables.specs.Space.{Mapping, mapping_at}
 use Rattle.pl_history.specs.declared.answer.Answer.TheVariants as answer_is
 use Rattle.pl_history.specs.declared.line.Line.{Line}
-use Rattle.pl_history.specs.declared.line.Line.TheVariants.{Create, Store}
+use Rattle.pl_history.specs.declared.line.Line.TheVariants.{Create, Shadow, Store}
 use Rattle.pl_history.specs.declared.setup.SetupParts.{SetupParts}
 use Rattle.pl_history.specs.HostAccess.{mapping_used, store_to}
 use Rattle.pl_history.specs.Legal.{AllowedAnswer}
-use Rattle.pl_history.specs.Monitor.{Monitor, Number, answer, is_host, number, pages_taken, removed_at, script_of}
-use Rattle.pl_history.specs.OwnedPages.{PagesStand}
-use Rattle.pl_history.proofs.OwnedPages.{legal_pages}
+use Rattle.pl_history.specs.Monitor.{Monitor, Number, answer, is_host, removed_at, script_of}
 use Rattle.world_attack.specs.Room.{RoomStays}
 use Rattle.world_machine.specs.declared.under.Under.{Under}
 use Rattle.world_machine.specs.declared.under.Under.TheVariants.{Idle, Putting}
@@ -36,7 +35,7 @@ use Rattle.world_machine.specs.Answering.{answers, entry_now, with_entry}
 use Rattle.world_machine.specs.BytesAgree.{ByteAgrees, HasPut, HostBytesAgree, OnlyAttacksDiffer, PageAgrees}
 use Rattle.world_machine.specs.LinesUnderWay.{LineUnderWay, number_under_way}
 use Rattle.world_machine.specs.Pages.{numbers_of}
-use Rattle.world_machine.specs.RecordsAgree.{RecordsAgree, owner_of}
+use Rattle.world_machine.specs.RecordsAgree.{owner_of}
 use Rattle.world_machine.specs.Standing.{Kept, state_of, written_page}
 use Rattle.world_machine.specs.Worlds.{WorldData, answered_at, hart_line, under_at}
 use Rattle.world_machine.proofs.HostOutcomes.{HostLine}
@@ -44,22 +43,24 @@ use Rattle.world_machine.proofs.LineKinds.{answered_line}
 use Rattle.world_machine.proofs.LineMoves.{LineMoves}
 use Rattle.world_machine.proofs.LineTranslations.{unbegun_waits_none}
 use Rattle.world_machine.proofs.Lists.{everywhere}
-use Rattle.world_machine.proofs.NumberRows.{host_within}
+use Rattle.world_machine.proofs.NumberRows.{host_within, own_number}
 use Rattle.world_machine.proofs.QuietRows.{idle_has_none, idle_put_none, none_some}
 use Rattle.world_machine.proofs.RowKept.{line_after, row_kept}
 use Rattle.world_machine.proofs.TranslationFrames.{quiet_translations}
-use Rattle.world_machine.proofs.UnderWay.{own_numbers}
+use Rattle.world_machine.proofs.UnderWay.{held_owned, line_used, made_used, own_numbers}
 
 -- what is among the first of a list is in the list
 in_whole : (n : ℕ) (xs : List ℕ) (x : ℕ) → Contains (take n xs) x → Contains xs x
 in_whole n xs x here = All-contains (Contains xs) (take n xs) x (All-take (Contains xs) n xs (All-contains_itself xs)) here
 
--- a page that a line has put is one of its number's
-pub put_page : (setup : SetupParts) (bytes_of : ℕ → List ℕ) (rec : ℕ → Enclave) (of : ℕ → Number) (hart : ℕ) (line : Option Line) (under : Under) (page : ℕ) → RecordsAgree rec of
-    → LineUnderWay setup bytes_of rec of hart line under → HasPut line under page → (e : ℕ) × (number_under_way line under ≡ Some e) × Contains (of e).pages page
-put_page setup bytes_of rec of hart (Some (Create e image pages)) (Putting done) page agree k put =
-    (e.0, refl, subst (λ all. Contains all page) (sym ((agree e.0).pages ∙ ap numbers_of k.pages_are ∙ own_numbers pages)) (in_whole done pages page put))
-put_page setup bytes_of rec of hart line under page agree k put = absurd put
+-- a page that a line has put is one of its number's record
+pub put_page : (setup : SetupParts) (bytes_of : ℕ → List ℕ) (rec : ℕ → Enclave) (of : ℕ → Number) (hart : ℕ) (line : Option Line) (under : Under) (page : ℕ)
+    → LineUnderWay setup bytes_of rec of hart line under → HasPut line under page → (e : ℕ) × (number_under_way line under ≡ Some e) × Contains (numbers_of (rec e).pages) page
+put_page setup bytes_of rec of hart (Some (Create e image pages)) (Putting done) page k put =
+    (e.0, refl, subst (λ all. Contains all page) (sym (ap numbers_of k.pages_are ∙ own_numbers pages)) (in_whole done pages page put))
+put_page setup bytes_of rec of hart (Some (Shadow e image pages)) (Putting done) page k put =
+    (e.0, refl, subst (λ all. Contains all page) (sym (ap numbers_of k.pages_are ∙ own_numbers pages)) (in_whole done pages page put))
+put_page setup bytes_of rec of hart line under page k put = absurd put
 
 module _ (digest_of : List ℕ → List ℕ) (room_stays : RoomStays) (w : WorldData) (k : Kept digest_of w) (none : w.collision ≡ None) (hart : ℕ) (below : hart < w.setup.harts)
     (va : Va) (word : ℕ) (h : HostLine w hart (Store va word) va) (aligned : va.0 % 8 ≡ 0) (m : Mapping)
@@ -150,28 +151,28 @@ module _ (digest_of : List ℕ → List ℕ) (room_stays : RoomStays) (w : World
   guard_apart p guard same =
       false≢true (sym (ap is_host (k.stands.owners.owner p ∙ ap (option_map owner_of) guard)) ∙ ap (λ q. is_host (s.owner q)) same ∙ of_host)
 
-  pages : PagesStand w.setup s
-  pages = legal_pages.stand w.setup w.history.bytes w.history.entries k.legal
-
-  number_apart : (p e : ℕ) → Contains (s.number e).pages p → p ≢ page
-  number_apart p e among same =
-      let taken : Contains (pages_taken (s.number e)) p = Contains-append_left (s.number e).pages (s.number e).spares p among in
-      let owned : s.owner p ≡ Some (number e) = All-contains (λ q. s.owner q ≡ Some (number e)) (pages_taken (s.number e)) p (pages.taken e) taken in
-      false≢true (sym (ap is_host owned) ∙ ap (λ q. is_host (s.owner q)) same ∙ of_host)
+  -- a page of a record is a number's
+  record_apart : (p e : ℕ) → is_free (enclave_at w.enclaves e).state ≡ false → Contains (numbers_of (enclave_at w.enclaves e).pages) p → p ≢ page
+  record_apart p e used among same =
+      let r : Enclave = enclave_at w.enclaves e in
+      let owned = held_owned w.owners e r.parent r.pages p (k.stands.enclaves e used).held.owned among in
+      false≢true (sym (ap is_host (own_number digest_of w k owned.0 p owned.1)) ∙ ap (λ q. is_host (s.owner q)) same ∙ of_host)
 
   put_still : (other p : ℕ) → HasPut (hart_line w other) (under_at w.under other) p → PageAgrees ctl.off_chip w.ctl.mirror s.attacks p
   put_still other p put =
-      let among = put_page w.setup (written_page w) (enclave_at w.enclaves) s.number other (hart_line w other) (under_at w.under other) p k.stands.records (k.stands.lines other) put in
-      page_still p (number_apart p among.0 among.2) (k.stands.attacks.put other p put)
+      let among = put_page w.setup (written_page w) (enclave_at w.enclaves) s.number other (hart_line w other) (under_at w.under other) p (k.stands.lines other) put in
+      let used = line_used w.setup (written_page w) (enclave_at w.enclaves) s.number other (hart_line w other) (under_at w.under other) among.0 (k.stands.lines other) among.1 in
+      page_still p (record_apart p among.0 used among.2) (k.stands.attacks.put other p put)
 
   line_other : (other : ℕ) → other ≢ hart → line_after w answered' other ≡ hart_line w other
   line_other other differs = ap (slice_get (script_of w.setup other)) (moves.answered_change.others other differs)
 
-  attacks : OnlyAttacksDiffer w.setup.zones ctl.off_chip w.ctl.mirror s.attacks w.owners s.number (line_after w answered') (under_at (slice_set w.under hart Idle))
+  attacks : OnlyAttacksDiffer w.setup.zones ctl.off_chip w.ctl.mirror s.attacks w.owners (enclave_at w.enclaves) s.number
+      (line_after w answered') (under_at (slice_set w.under hart Idle))
   attacks = record {
     nodes = λ i past. byte_still i (inr (let zones : w.ctl.zones ≡ w.setup.zones = k.sizes.zones in omega (arith, past, there, zones))) (k.stands.attacks.nodes i past);
     guarded = λ p is. page_still p (guard_apart p is) (k.stands.attacks.guarded p is);
-    live = λ p e is live. page_still p (number_apart p e is) (k.stands.attacks.live p e is live);
+    made = λ p e is made. page_still p (record_apart p e (made_used (enclave_at w.enclaves e) (s.number e) (k.stands.records e) made) is) (k.stands.attacks.made p e is made);
     put = λ other p. everywhere (λ o. HasPut (line_after w answered' o) (under_at (slice_set w.under hart Idle) o) p → PageAgrees ctl.off_chip w.ctl.mirror s.attacks p) hart
         (λ put. absurd (idle_put_none _ p (subst (λ u. HasPut (line_after w answered' hart) u p) moves.under_change.here put)))
         (λ o differs put. put_still o p (subst (λ u. HasPut (hart_line w o) u p) (moves.under_change.others o differs)
@@ -187,6 +188,7 @@ module _ (digest_of : List ℕ → List ℕ) (room_stays : RoomStays) (w : World
     trees = off_chip_is_free digest_of w.ctl ctl.off_chip k.trees (length-with_bytes w.ctl.off_chip at bytes fits);
     owners_agree = record { owner = k.stands.owners.owner; maps = k.stands.owners.maps };
     records = k.stands.records;
+    pages_agree = k.stands.pages;
     enclaves_agree = k.stands.enclaves;
     host = host;
     attacks = attacks;

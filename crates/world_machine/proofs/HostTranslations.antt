@@ -20,6 +20,7 @@ use Rattle.rv_sv39.specs.Canonical.{is_canonical}
 use Rattle.rv_sv39.specs.Walk.{Answer, Walks}
 use Rattle.rv_tlb.specs.declared.tlb.TlbEntry.{TlbEntry}
 use Rattle.mem_geom.specs.Layout.{page_start}
+use Rattle.mon_enclave.specs.Records.{enclave_at}
 use Rattle.mon_host.specs.Laws.{mirror_words}
 use Rattle.mon_tables.specs.Space.{Mapping, mapping_at}
 use Rattle.mon_tables.specs.SpaceWalks.{translation}
@@ -47,7 +48,7 @@ module _ (digest_of : List ℕ → List ℕ) (w : WorldData) (k : Kept digest_of
   view = host_view w.setup.tables
 
   abbrev Fresh : TlbEntry → Type 0
-  Fresh = IsFresh w.setup s w.fences hart
+  Fresh = IsFresh w.setup (enclave_at w.enclaves) s w.fences hart
 
   -- a translation that stands is that of a mapping that the hart may use
   pub record IsUsed (ppn : Ppn) (perms : Perms) : Type 0 where
@@ -66,7 +67,7 @@ module _ (digest_of : List ℕ → List ℕ) (w : WorldData) (k : Kept digest_of
     perms_are = ap (λ (x : TlbEntry). x.perms) is.is;
   }
 
-  not_number : (ppn : Ppn) (perms : Perms) → IsNumberEntry w.setup s w.fences hart (translation_of view va ppn perms) → ⊥
+  not_number : (ppn : Ppn) (perms : Perms) → IsNumberEntry w.setup (enclave_at w.enclaves) s w.fences hart (translation_of view va ppn perms) → ⊥
   not_number ppn perms is = (let h : 0 ≡ is.e + 1 = ap (λ (x : TlbEntry). x.space.0) is.is in omega (arith, h))
 
   pub fresh_used : (ppn : Ppn) (perms : Perms) → Fresh (translation_of view va ppn perms) → IsUsed ppn perms

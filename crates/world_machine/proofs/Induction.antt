@@ -14,19 +14,20 @@ use Rattle.pl_history.specs.declared.answer.Answer.TheVariants as answer_is
 use Rattle.pl_history.specs.declared.line.AttackLine.{AttackLine}
 use Rattle.pl_history.specs.declared.line.AttackLine.TheVariants as attack
 use Rattle.pl_history.specs.declared.line.Line.{Line}
-use Rattle.pl_history.specs.declared.line.Line.TheVariants.{Load, Store, Map, Unmap, Create, Run, Resume, Send, Take, Destroy, After}
+use Rattle.pl_history.specs.declared.line.Line.TheVariants.{Load, Store, Map, Unmap, Create, Shadow, Fork, Grant, Run, Resume, Send, Take, Destroy, Drop, After}
 use Rattle.pl_history.specs.Legal.{AllowedAnswer}
 use Rattle.pl_history.specs.Monitor.{Progress}
 use Rattle.pl_history.specs.Rules.{is_actor, names_known}
 use Rattle.world_attack.proofs.RoomLemmas.{room_stays}
 use Rattle.world_machine.specs.declared.under.Under.{Under}
-use Rattle.world_machine.specs.declared.under.Under.TheVariants.{Idle, Seeking, Removing, Destroying, Putting, Running}
+use Rattle.world_machine.specs.declared.under.Under.TheVariants.{Idle, Seeking, Removing, Destroying, Putting, Running, Breaking}
 use Rattle.world_machine.specs.Acknowledging.{owed}
 use Rattle.world_machine.specs.Answering.{answers, quiet}
 use Rattle.world_machine.specs.GivingBack.{ends_destroy}
 use Rattle.world_machine.specs.HostAccessing.{loads, stores}
 use Rattle.world_machine.specs.HostMapping.{ends_unmap, lacked_by}
 use Rattle.world_machine.specs.RecordsAgree.{is_begun}
+use Rattle.world_machine.specs.Running.{restarts}
 use Rattle.world_machine.specs.Standing.{Kept, state_of}
 use Rattle.world_machine.specs.Steps.{AllFit, AnyAnswer, Fits, Step, Turn, ack_turn, actor_turn, attacker_turn, counted, due, hart_turn, moves, replay_from, rests, stepped, turn_of, waiting_turn, world_after}
 use Rattle.world_machine.specs.Worlds.{CollisionData, WorldData, answered_at, attacker_line, hart_line, under_at}
@@ -36,12 +37,18 @@ use Rattle.world_machine.proofs.BeginRunRows.{begin_run_kept}
 use Rattle.world_machine.proofs.CreateRows.{begin_create_kept}
 use Rattle.world_machine.proofs.DestroyEnds.{ends_destroy_kept}
 use Rattle.world_machine.proofs.DestroyRows.{begins_destroy_kept}
+use Rattle.world_machine.proofs.DropRows.{drop_kept}
+use Rattle.world_machine.proofs.ForkPuts.{put_table_kept}
+use Rattle.world_machine.proofs.ForkRows.{begin_fork_kept}
+use Rattle.world_machine.proofs.GrantRows.{grant_kept}
 use Rattle.world_machine.proofs.HostAccessRows.{accesses_host_kept, begins_access_kept}
 use Rattle.world_machine.proofs.MapRows.{maps_kept}
-use Rattle.world_machine.proofs.PutRows.{put_next_kept}
+use Rattle.world_machine.proofs.MakeRows.{put_next_kept}
 use Rattle.world_machine.proofs.QuietRows.{answers_kept}
+use Rattle.world_machine.proofs.RestartRows.{restart_kept}
 use Rattle.world_machine.proofs.RowKept.{beside_kept}
 use Rattle.world_machine.proofs.RunEvents.{runs_kept}
+use Rattle.world_machine.proofs.RunMoves.{run_line}
 use Rattle.world_machine.proofs.SetupFacts.{line_names}
 use Rattle.world_machine.proofs.LineTranslations.{isnt_waiting}
 use Rattle.world_machine.proofs.UnmapEnds.{ends_unmap_kept}
@@ -84,6 +91,12 @@ module _ (digest_of : List ℕ → List ℕ) (law : (m : List ℕ) → length (d
     giving_kept e here so_far None nobody = ends_destroy_kept digest_of room_stays w k none hart below e here so_far nobody
     giving_kept e here so_far (Some harts) lacking = tt
 
+    -- an instruction starts anew after a break, or its hart waits
+    breaking_kept : (first : Bool) (e : EncNo) (budget count : ℕ) → hart_line w hart ≡ Some (run_line first e budget) → under_at w.under hart ≡ Breaking count
+        → (o : Option HartSet) → lacked_by w hart ≡ o → KeptTurn digest_of (waiting_turn (restarts w hart count) o)
+    breaking_kept first e budget count here so_far None nobody = restart_kept digest_of room_stays w k none hart below first e budget count here so_far nobody
+    breaking_kept first e budget count here so_far (Some harts) lacking = tt
+
     -- one clause a row
     due_kept : (line : Line) (under : Under) → hart_line w hart ≡ Some line → under_at w.under hart ≡ under → KeptTurn digest_of (due digest_of w hart positions line under)
     due_kept (Load va) Idle here so_far = begins_access_kept digest_of law room_stays w k none hart below va loads here so_far positions
@@ -95,12 +108,27 @@ module _ (digest_of : List ℕ → List ℕ) (law : (m : List ℕ) → length (d
     due_kept (Unmap va) (Removing page) here so_far = removal_kept va page here so_far (lacked_by w hart) refl
     due_kept (Destroy e) Idle here so_far = begins_destroy_kept digest_of room_stays w k none hart below e here so_far (number_there (Destroy e) e.0 here (λ is. grind (arith, nat_tests)))
     due_kept (Destroy e) Destroying here so_far = giving_kept e here so_far (lacked_by w hart) refl
-    due_kept (Create e image pages) Idle here so_far = begin_create_kept digest_of room_stays w k none hart below e image pages here so_far
-    due_kept (Create e image pages) (Putting done) here so_far = put_next_kept digest_of tells.page_writes room_stays w k none hart below positions e image pages done here so_far
+    due_kept (Drop shadow) Idle here so_far = drop_kept digest_of room_stays w k none hart below shadow here so_far
+    due_kept (Create e image pages) Idle here so_far = begin_create_kept digest_of room_stays w k none hart below false e image pages here so_far
+    due_kept (Create e image pages) (Putting done) here so_far =
+        put_next_kept digest_of tells.page_writes room_stays w k none hart below positions false e image pages done here so_far
+    due_kept (Shadow e image pages) Idle here so_far = begin_create_kept digest_of room_stays w k none hart below true e image pages here so_far
+    due_kept (Shadow e image pages) (Putting done) here so_far =
+        put_next_kept digest_of tells.page_writes room_stays w k none hart below positions true e image pages done here so_far
+    due_kept (Fork shadow e pages) Idle here so_far = begin_fork_kept digest_of room_stays w k none hart below shadow e pages here so_far
+    due_kept (Fork shadow e pages) (Putting done) here so_far =
+        put_table_kept digest_of tells.page_writes room_stays w k none hart below positions shadow e pages done here so_far
+    due_kept (Grant e page) Idle here so_far = grant_kept digest_of room_stays w k none hart below e page here so_far
     due_kept (Run e budget) Idle here so_far = begin_run_kept digest_of room_stays w k none hart below so_far true e budget here
-    due_kept (Run e budget) (Running micro count) here so_far = runs_kept digest_of tells room_stays w k none hart below true e budget micro count here so_far (number_there (Run e budget) e.0 here (λ is. grind (arith, nat_tests))) positions
+    due_kept (Run e budget) (Running micro count) here so_far =
+        runs_kept digest_of law tells room_stays w k none hart below true e budget micro count here so_far
+        (number_there (Run e budget) e.0 here (λ is. grind (arith, nat_tests))) positions
+    due_kept (Run e budget) (Breaking count) here so_far = breaking_kept true e budget count here so_far (lacked_by w hart) refl
     due_kept (Resume e budget) Idle here so_far = begin_run_kept digest_of room_stays w k none hart below so_far false e budget here
-    due_kept (Resume e budget) (Running micro count) here so_far = runs_kept digest_of tells room_stays w k none hart below false e budget micro count here so_far (number_there (Resume e budget) e.0 here (λ is. grind (arith, nat_tests))) positions
+    due_kept (Resume e budget) (Running micro count) here so_far =
+        runs_kept digest_of law tells room_stays w k none hart below false e budget micro count here so_far
+        (number_there (Resume e budget) e.0 here (λ is. grind (arith, nat_tests))) positions
+    due_kept (Resume e budget) (Breaking count) here so_far = breaking_kept false e budget count here so_far (lacked_by w hart) refl
     due_kept (Send e word) Idle here so_far = send_kept digest_of room_stays w k none hart below so_far e (number_there (Send e word) e.0 here (λ is. grind (arith, nat_tests))) word here
     due_kept (Take e) Idle here so_far = take_kept digest_of room_stays w k none hart below so_far e (number_there (Take e) e.0 here (λ is. grind (arith, nat_tests))) here
     due_kept (After actor count) Idle here so_far =

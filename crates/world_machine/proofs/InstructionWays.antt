@@ -22,9 +22,10 @@ use Rattle.pl_history.specs.Running.{obstacle}
 use Rattle.world_machine.specs.declared.under.Under.TheVariants.{Running}
 use Rattle.world_machine.specs.Answering.{goes_on}
 use Rattle.world_machine.specs.LinesUnderWay.{access_of}
-use Rattle.world_machine.specs.Pages.{fault_cause, located, numbers_of}
+use Rattle.world_machine.specs.Pages.{fault_cause, numbers_of}
 use Rattle.world_machine.specs.Running.{RunNow, acts, calls, leaves, receives, retired_with, retires, sends}
 use Rattle.world_machine.specs.Worlds.{WorldData}
+use Rattle.world_machine.proofs.FlatPages.{located}
 use Rattle.world_machine.proofs.Instructions.{IsFetched, Retires, call_traps, fetch_traps, flat_of, load_traps, receive_retires, receive_waits, send_full, send_retires, store_traps, trap_traps}
 use Rattle.world_machine.proofs.LiveEnclaves.{IsLive, live_exit, live_set}
 

@@ -16,11 +16,11 @@ use Rattle.rv_alone.specs.declared.step.Context.{Context}
 use Rattle.rv_alone.specs.Effect.{act_of, advanced, loaded, loaded_value, with_register}
 use Rattle.rv_alone.specs.Flat.{Flat, fetched, on, ended}
 use Rattle.rv_alone.specs.Alone.{trap, wait, full, next, with_context, one, runs, acts, loads, stores, receives}
-use Rattle.world_machine.specs.Pages.{flat_pages, located, numbers_of, part_of_word, word_offset}
+use Rattle.world_machine.specs.Pages.{flat_pages, numbers_of, part_of_word, word_offset}
 use Rattle.world_machine.specs.Running.{retired_with}
 use Rattle.world_machine.proofs.Alignment.{next_aligned, register_aligned}
 use Rattle.world_machine.proofs.ByteBounds.{PagesAreBytes, located_bytes}
-use Rattle.world_machine.proofs.FlatPages.{StoresInto, fetched_located, read_located, stored_located, stored_none}
+use Rattle.world_machine.proofs.FlatPages.{StoresInto, fetched_located, located, read_located, stored_located, stored_none}
 use Rattle.world_machine.proofs.WordParts.{StaysInWord, part_in_page, stays_in_word}
 
 -- the state that a record stands for, over the bytes of pages

@@ -1,5 +1,5 @@
 -- Why a run leaves its enclave: what the monitor's rule asks at each way.
-use Rattle.std.proofs.Common.{◌≡◌, ℕ, ◌+◌, ◌<◌, ◌==◌, true, false, List, Option, Some, None, refl, ap, sym, ◌∙◌, subst, arith}
+use Rattle.std.proofs.Common.{◌≡◌, ℕ, ◌+◌, ◌<◌, ◌==◌, Bool, true, false, List, Some, refl, ap, sym, ◌∙◌, subst, arith}
 use Rattle.std.proofs.lemmas.Bool.Decides.{nat_tests}
 use Rattle.std.proofs.Common.{add_assoc}
 use Rattle.pl_base.specs.declared.place.Place.{Place}
@@ -18,7 +18,6 @@ use Rattle.world_machine.proofs.LiveEnclaves.{IsLive}
 -- A run of this record so many instructions after the number was last left, as the monitor counts them. The number wasn't forked.
 pub record IsCounted (r : Enclave) (n : Number) (count : ℕ) : Type 0 where
   pub sent : n.sent ≡ r.sent
-  pub parent : n.parent ≡ None
   pub retired : r.retired ≡ n.retired + count
 
 spent : (count budget : ℕ) → count ≡ budget → (count == budget) ≡ true
@@ -27,16 +26,12 @@ spent count budget same = grind (arith, nat_tests)
 not_spent : (count budget : ℕ) → count < budget → (count == budget) ≡ false
 not_spent count budget below = grind (arith, nat_tests)
 
--- a number that wasn't forked needs no page
-no_page : (n : Number) (written : List ℕ) (page : Option ℕ) → n.parent ≡ None → needs_page n.parent n.spares written page ≡ false
-no_page n written page none = ap (λ p. needs_page p n.spares written page) none
-
--- a fault doesn't stop an image that is run alone
-ends_stopped : (MayFault : Place → Type 0) (outcome : Outcome) (why : Why) → obstacle false outcome ≡ Some why → EndsBy on false (obstacle false outcome) MayFault why
-ends_stopped MayFault (trap cause value) why is = let h : why_is.Trapped cause value ≡ why = cc in subst (EndsBy on false (Some (why_is.Trapped cause value)) MayFault) h refl
-ends_stopped MayFault wait why is = let h : why_is.Waiting ≡ why = cc in subst (EndsBy on false (Some why_is.Waiting) MayFault) h refl
-ends_stopped MayFault full why is = let h : why_is.OutFull ≡ why = cc in subst (EndsBy on false (Some why_is.OutFull) MayFault) h refl
-ends_stopped MayFault (next a) why is = cc
+-- an image that is stopped is so whether it needs a page or not, and by no fault
+ends_stopped : (MayFault : Place → Type 0) (needs : Bool) (outcome : Outcome) (why : Why) → obstacle false outcome ≡ Some why → EndsBy on false (obstacle needs outcome) MayFault why
+ends_stopped MayFault needs (trap cause value) why is = let h : why_is.Trapped cause value ≡ why = cc in subst (EndsBy on false (Some (why_is.Trapped cause value)) MayFault) h refl
+ends_stopped MayFault needs wait why is = let h : why_is.Waiting ≡ why = cc in subst (EndsBy on false (Some why_is.Waiting) MayFault) h refl
+ends_stopped MayFault needs full why is = let h : why_is.OutFull ≡ why = cc in subst (EndsBy on false (Some why_is.OutFull) MayFault) h refl
+ends_stopped MayFault needs (next a) why is = cc
 
 module _ (image : Image) (memory : List ℕ) (r : Enclave) (n : Number) (count budget : ℕ) (live : IsLive image memory r) (counted : IsCounted r n count) (MayFault : Place → Type 0) where
   abbrev here : Flat
@@ -51,12 +46,13 @@ module _ (image : Image) (memory : List ℕ) (r : Enclave) (n : Number) (count b
   leaves_spent whole =
       (omega arith, (here, counted_alone, subst (λ t. EndsBy on t (obstacle_of (flat_image image) n (n.retired + count) here) MayFault why_is.Budget) (sym (spent count budget whole)) refl))
 
+  -- whether the number needs a page for its next instruction
+  abbrev needs_now : Bool
+  needs_now = needs_page n.parent n.spares (written_pages (flat_image image) n.sent (n.retired + count)) (page_written on here)
+
   -- what keeps the next instruction from going on
-  stopped_by : (outcome : Outcome) → one here r.sent ≡ outcome → obstacle_of (flat_image image) n (n.retired + count) here ≡ obstacle false outcome
-  stopped_by outcome is =
-      ap (λ needs. obstacle needs (one here n.sent)) (no_page n (written_pages (flat_image image) n.sent (n.retired + count)) (page_written on here) counted.parent)
-      ∙ ap (λ words. obstacle false (one here words)) counted.sent
-      ∙ ap (obstacle false) is
+  stopped_by : obstacle_of (flat_image image) n (n.retired + count) here ≡ obstacle needs_now (one here r.sent)
+  stopped_by = ap (λ words. obstacle needs_now (one here words)) counted.sent
 
   -- the budget isn't spent
   unspent : (why : Why) → count < budget → EndsBy on false (obstacle_of (flat_image image) n (n.retired + count) here) MayFault why → MayLeave (flat_image image) MayFault n budget count why
@@ -66,7 +62,12 @@ module _ (image : Image) (memory : List ℕ) (r : Enclave) (n : Number) (count b
   -- its next instruction keeps it from going on: it waits, has no room for a word, or traps
   pub leaves_stopped : (why : Why) → count < budget → obstacle false (one here r.sent) ≡ Some why → MayLeave (flat_image image) MayFault n budget count why
   leaves_stopped why below is =
-      unspent why below (subst (λ stopped. EndsBy on false stopped MayFault why) (sym (stopped_by (one here r.sent) refl)) (ends_stopped MayFault (one here r.sent) why is))
+      unspent why below (subst (λ stopped. EndsBy on false stopped MayFault why) (sym stopped_by) (ends_stopped MayFault needs_now (one here r.sent) why is))
+
+  -- it needs a page for its next instruction
+  pub leaves_needing : (a : Flat) → count < budget → one here r.sent ≡ next a → needs_now ≡ true → MayLeave (flat_image image) MayFault n budget count why_is.NeedPage
+  leaves_needing a below goes needs =
+      unspent why_is.NeedPage below (stopped_by ∙ ap (λ b. obstacle b (one here r.sent)) needs ∙ ap (obstacle true) goes)
 
   -- a licensed place was found other than its parent has it
   pub leaves_faulted : (place : Place) → count < budget → MayFault place → MayLeave (flat_image image) MayFault n budget count (why_is.Fault place)

@@ -1,6 +1,7 @@
 -- Each turn of the host's accesses and mappings leaves less to do, row by row, and so does each acknowledgement.
 use Rattle.std.proofs.Common.{◌≡◌, ℕ, ◌+◌, ◌-◌, ◌*◌, ◌%◌, ◌<◌, ◌≤◌, ◌==◌, true, List, length, Option, Some, None, refl, ap, arith}
 use Rattle.std.specs.Prelude.{slice_set, Result, Ok, Err}
+use Rattle.std.proofs.Math.Nat.{le_refl}
 use Rattle.std.proofs.lemmas.Bool.{false≢true}
 use Rattle.pl_base.specs.declared.address.Pa.{Pa}
 use Rattle.pl_base.specs.declared.address.Va.{Va}
@@ -27,7 +28,7 @@ use Rattle.pl_history.specs.declared.line.Line.TheVariants.{Load, Store, Map, Un
 use Rattle.pl_history.specs.declared.setup.SetupParts.{SetupParts}
 use Rattle.pl_history.specs.Protection.{pmp_of}
 use Rattle.world_machine.specs.declared.under.Under.{Under}
-use Rattle.world_machine.specs.declared.under.Under.TheVariants.{Idle, Seeking, Removing, Destroying, Putting, Running}
+use Rattle.world_machine.specs.declared.under.Under.TheVariants.{Idle, Seeking, Removing, Destroying, Putting, Running, Breaking}
 use Rattle.world_machine.specs.Acknowledging.{acknowledged, owed, restarted}
 use Rattle.world_machine.specs.Answering.{answers, quiet}
 use Rattle.world_machine.specs.HostAccessing.{WordAccess, accesses_host, begins_access, host_faults, host_learns, host_request, kind_of, loads, made, reaches_host, stores}
@@ -36,8 +37,9 @@ use Rattle.world_machine.specs.Runs.{fences_left, line_left, remaining, words_re
 use Rattle.world_machine.specs.Standing.{Kept}
 use Rattle.world_machine.specs.Translating.{Request, offset_at, page_at, reads_table}
 use Rattle.world_machine.specs.Worlds.{WorldData, answered_at, hart_line, tlb_at, under_at, with_tlb}
+use Rattle.world_machine.proofs.BreaksLeft.{breaks_of}
 use Rattle.world_machine.proofs.FencesLeft.{acked_less, done_more, left_less, needs_left}
-use Rattle.world_machine.proofs.Lessens.{answered_by, answered_less, collision_less, falls_to, goes_by, goes_less, hart_there, some_cost}
+use Rattle.world_machine.proofs.Lessens.{SharesNoMore, answered_by, answered_less, collision_less, falls_to, goes_by, goes_less, hart_there, some_cost}
 use Rattle.world_machine.proofs.LessRows.{decided_less, either_less}
 use Rattle.world_machine.proofs.Lists.{changed_none, changed_set}
 use Rattle.world_machine.proofs.NeverAgain.{map_never, read_never, unmap_never}
@@ -69,6 +71,7 @@ restarted_left setup space (Some line) (Removing page) = omega arith
 restarted_left setup space (Some line) Destroying = omega arith
 restarted_left setup space (Some line) (Putting done) = omega arith
 restarted_left setup space (Some line) (Running micro count) = omega arith
+restarted_left setup space (Some line) (Breaking count) = omega arith
 
 module _ (digest_of : List ℕ → List ℕ) (w : WorldData) (k : Kept digest_of w) (none : w.collision ≡ None) (hart : ℕ) (below : hart < w.setup.harts) where
   -- ---- `load` and `store`
@@ -82,17 +85,17 @@ module _ (digest_of : List ℕ → List ℕ) (w : WorldData) (k : Kept digest_of
       some_left : 0 < line_left w.setup (Some (access_line va access)) under
       some_left = let few = at_most_three walk in omega arith
 
-      ends_less : (v : WorldData) → v.setup ≡ w.setup → v.collision ≡ None → v.fences ≡ w.fences → v.under ≡ slice_set w.under hart Idle
+      ends_less : (v : WorldData) → v.setup ≡ w.setup → v.collision ≡ None → v.fences ≡ w.fences → SharesNoMore w v → v.under ≡ slice_set w.under hart Idle
           → v.answered ≡ slice_set w.answered hart (answered_at w.answered hart + 1) → remaining v < remaining w
       ends_less = answered_less digest_of w k none hart below (access_line va access) under here so_far some_left
 
       reach_less : (o : Option Pa) → remaining (reaches_host w hart access o).world < remaining w
-      reach_less None = ends_less _ refl none refl refl refl
-      reach_less (Some pa) = either_less w (permits (pmp_of w.setup) pa.0 8 (kind_of access)) _ _ (made_less access) (ends_less _ refl none refl refl refl)
+      reach_less None = ends_less _ refl none refl (le_refl _) refl refl
+      reach_less (Some pa) = either_less w (permits (pmp_of w.setup) pa.0 8 (kind_of access)) _ _ (made_less access) (ends_less _ refl none refl (le_refl _) refl refl)
         where
           made_less : (a : WordAccess) → remaining (made w hart pa a) < remaining w
-          made_less loads = ends_less _ refl none refl refl refl
-          made_less (stores word) = ends_less _ refl none refl refl refl
+          made_less loads = ends_less _ refl none refl (le_refl _) refl refl
+          made_less (stores word) = ends_less _ refl none refl (le_refl _) refl refl
 
       table_less : words_read walk < 3 → (pa : Pa)
           → remaining (reads_table digest_of w request positions walk (host_learns hart) (host_faults hart) pa).world < remaining w
@@ -104,11 +107,11 @@ module _ (digest_of : List ℕ → List ℕ) (w : WorldData) (k : Kept digest_of
           (host_faults hart left) read.outcome (read_never digest_of (page_at pa) (offset_at pa) (going w.ctl positions))
           (λ word. by_learned (λ result. remaining (host_learns hart (with_tlb left hart (tlb_after walk word va request.kind request.view (tlb_at w.tlbs hart))) result) < remaining w)
           request.kind walk stands asks
-          (λ next more. goes_less digest_of w k none hart below (access_line va access) under here so_far _ (Seeking next) refl none refl refl refl
+          (λ next more. goes_less digest_of w k none hart below (access_line va access) under here so_far _ (Seeking next) refl none refl (le_refl _) refl refl
           (let on = seeking_left w.setup va access next in let few = at_most_three next in omega arith))
-          (λ no_page. ends_less _ refl none refl refl refl)
+          (λ no_page. ends_less _ refl none refl (le_refl _) refl refl)
           word va request.view)
-          (λ place. ends_less _ refl none refl refl refl)
+          (λ place. ends_less _ refl none refl (le_refl _) refl refl)
           (collision_less digest_of w k none hart below (access_line va access) under here so_far some_left)
 
       pub access_less : remaining (accesses_host digest_of w hart positions va access walk).world < remaining w
@@ -123,7 +126,7 @@ module _ (digest_of : List ℕ → List ℕ) (w : WorldData) (k : Kept digest_of
       by_test (λ event. remaining event.world < remaining w) (va.0 % 8 == 0)
       (accesses_host digest_of w hart positions va access Start) (quiet (answers w hart (answer_is.No refused.Misaligned)))
       (access_less va access Idle here idle positions Start (idle_left w.setup va access) tt)
-      (ends_less va access Idle here idle positions Start (idle_left w.setup va access) tt _ refl none refl refl refl)
+      (ends_less va access Idle here idle positions Start (idle_left w.setup va access) tt _ refl none refl (le_refl _) refl refl)
 
   pub seeks_less : (va : Va) (access : WordAccess) (walk : Walk) → hart_line w hart ≡ Some (access_line va access) → under_at w.under hart ≡ Seeking walk → IsBelowRoot walk → (positions : List ℕ)
       → remaining (accesses_host digest_of w hart positions va access walk).world < remaining w
@@ -137,32 +140,33 @@ module _ (digest_of : List ℕ → List ℕ) (w : WorldData) (k : Kept digest_of
       let event : HostEvent (Unit {0}) (List Owner) = map_of digest_of w.setup.tables w.fences w.owners va page perms (going w.ctl positions) in
       let left : WorldData = record w { ctl = event.step.after.ctl; owners = event.rest } in
       decided_less w left (mapped hart left) (host_faults hart left) event.step.outcome (map_never digest_of w.setup.tables w.fences w.owners va page perms (going w.ctl positions))
-      (mapped_less event.step.after.ctl event.rest) (λ place. answer_less _ refl none refl refl refl)
+      (mapped_less event.step.after.ctl event.rest) (λ place. answer_less _ refl none refl (le_refl _) refl refl)
       (collision_less digest_of w k none hart below (Map va page perms) Idle here idle (some_cost w.setup (Map va page perms)))
     where
-      answer_less : (v : WorldData) → v.setup ≡ w.setup → v.collision ≡ None → v.fences ≡ w.fences → v.under ≡ slice_set w.under hart Idle
+      answer_less : (v : WorldData) → v.setup ≡ w.setup → v.collision ≡ None → v.fences ≡ w.fences → SharesNoMore w v → v.under ≡ slice_set w.under hart Idle
           → v.answered ≡ slice_set w.answered hart (answered_at w.answered hart + 1) → remaining v < remaining w
       answer_less = answered_less digest_of w k none hart below (Map va page perms) Idle here idle (some_cost w.setup (Map va page perms))
 
       mapped_less : (ctl : CtlData) (owners : List Owner) (result : Result (Unit {0}) No)
           → remaining (mapped hart (record w { ctl = ctl; owners = owners }) result) < remaining w
-      mapped_less ctl owners (Ok done) = answer_less _ refl none refl refl refl
-      mapped_less ctl owners (Err cause) = answer_less _ refl none refl refl refl
+      mapped_less ctl owners (Ok done) = answer_less _ refl none refl (le_refl _) refl refl
+      mapped_less ctl owners (Err cause) = answer_less _ refl none refl (le_refl _) refl refl
 
   -- ---- `unmap`
 
   -- the fence that it posts needs at most all harts, and the line has cost as much for each
   module _ (va : Va) (here : hart_line w hart ≡ Some (Unmap va)) (idle : under_at w.under hart ≡ Idle) where
     module _ (ctl : CtlData) (fences : List (Option Fence)) (few : needs_left w.setup.harts fences ≤ fences_left w + 8 * w.setup.harts) where
-      refused_less : (v : WorldData) → v.setup ≡ w.setup → v.collision ≡ None → v.fences ≡ fences → v.under ≡ slice_set w.under hart Idle
+      refused_less : (v : WorldData) → v.setup ≡ w.setup → v.collision ≡ None → v.fences ≡ fences → SharesNoMore w v → v.under ≡ slice_set w.under hart Idle
           → v.answered ≡ slice_set w.answered hart (answered_at w.answered hart + 1) → remaining v < remaining w
-      refused_less v setup free is under answered =
+      refused_less v setup free is shares under answered =
           answered_by digest_of w k none hart below (Unmap va) Idle here idle v setup free under answered
-          (let same : needs_left w.setup.harts v.fences ≡ needs_left w.setup.harts fences = ap (needs_left w.setup.harts) is in omega arith)
+          (let fewer : breaks_of w.setup.harts v.enclaves ≤ breaks_of w.setup.harts w.enclaves = shares in
+          let same : needs_left w.setup.harts v.fences ≡ needs_left w.setup.harts fences = ap (needs_left w.setup.harts) is in omega arith)
 
       unmapped_less : (result : Result ℕ No) → remaining (unmapped hart va (record w { ctl = ctl; fences = fences }) result) < remaining w
       unmapped_less (Ok page) = goes_by digest_of w k none hart below (Unmap va) Idle here idle _ (Removing page) refl none refl refl (omega arith)
-      unmapped_less (Err cause) = refused_less _ refl none refl refl refl
+      unmapped_less (Err cause) = refused_less _ refl none refl (le_refl _) refl refl
 
     rest_few : (positions : List ℕ)
         → needs_left w.setup.harts (unmap_begun digest_of w.setup.tables w.fences hart va (going w.ctl positions)).rest ≤ fences_left w + 8 * w.setup.harts
@@ -175,7 +179,7 @@ module _ (digest_of : List ℕ → List ℕ) (w : WorldData) (k : Kept digest_of
         let left : WorldData = record w { ctl = event.step.after.ctl; fences = event.rest } in
         decided_less w left (unmapped hart va left) (host_faults hart left) event.step.outcome (unmap_never digest_of w.setup.tables w.fences hart va (going w.ctl positions))
         (unmapped_less event.step.after.ctl event.rest (rest_few positions))
-        (λ place. refused_less event.step.after.ctl event.rest (rest_few positions) _ refl none refl refl refl)
+        (λ place. refused_less event.step.after.ctl event.rest (rest_few positions) _ refl none refl (le_refl _) refl refl)
         (collision_less digest_of w k none hart below (Unmap va) Idle here idle (some_cost w.setup (Unmap va)))
 
   pub ends_unmap_less : (va : Va) (page : ℕ) → hart_line w hart ≡ Some (Unmap va) → under_at w.under hart ≡ Removing page → remaining (ends_unmap w hart page) < remaining w

@@ -1,48 +1,53 @@
--- Each turn that moves leaves less to do, row by row.
-use Rattle.std.proofs.Common.{◌≡◌, ℕ, ◌+◌, ◌-◌, ◌*◌, ◌%◌, ◌<◌, ◌==◌, Bool, true, false, if◌then◌else◌, List, length, Option, Some, None, refl, sym, ap, subst, arith}
-use Rattle.std.specs.Prelude.{slice_set, option_map}
-use Rattle.pl_base.specs.declared.access.Kind.{Kind}
-use Rattle.pl_base.specs.declared.access.Kind.TheVariants as kind
-use Rattle.pl_base.specs.declared.address.Pa.{Pa}
+-- Each turn that moves leaves less to do, row by row: the lines that begin or are answered at once, and the numbers that are being made.
+use Rattle.std.proofs.Common.{◌≡◌, ℕ, ◌+◌, ◌*◌, ◌<◌, ◌≤◌, Bool, true, false, if◌then◌else◌, List, [], length, Option, Some, None, slice_get, unwrap_or, refl, ap, subst, arith}
+use Rattle.std.specs.Prelude.{slice_set}
+use Rattle.std.proofs.Math.Nat.{le_refl}
+use Rattle.std.proofs.lemmas.Bool.{false≢true}
 use Rattle.pl_base.specs.declared.number.EncNo.{EncNo}
 use Rattle.pl_base.specs.declared.place.Place.{Place}
 use Rattle.pl_base.specs.declared.refusal.No.{No}
 use Rattle.pl_base.specs.declared.refusal.No.TheVariants as refused
-use Rattle.mem_ctl.specs.Calls.{read_word_of, write_part_of}
-use Rattle.mem_ctl.specs.Data.{After, Again, Collision, CtlData, Fault, Outcome, Value, going}
-use Rattle.mon_enclave.specs.declared.enclave.Enclave.{Enclave}
-use Rattle.mon_enclave.specs.Records.{enclave_at, has_room, received_word}
-use Rattle.mon_life.specs.Putting.{CreatePut, create_put, steps_of}
-use Rattle.rv_alone.specs.declared.step.Act.{Act}
-use Rattle.rv_alone.specs.declared.step.Act.TheVariants.{Set, Load, Store, Call, Trap}
-use Rattle.rv_alone.specs.Effect.{act_of, advanced, loaded}
-use Rattle.rv_hart.specs.declared.walks.Micro.{Micro}
-use Rattle.rv_hart.specs.declared.walks.Micro.TheVariants.{Fetching, Reaching, Faulting}
-use Rattle.rv_hart.specs.declared.walks.Walk.{Walk}
+use Rattle.pl_base.specs.declared.state.State.{State}
+use Rattle.pl_base.specs.declared.state.State.TheVariants as state_is
+use Rattle.pl_base.specs.States.{is_free, is_sealed}
+use Rattle.rv_hart.specs.declared.walks.Micro.TheVariants.{Fetching}
 use Rattle.rv_hart.specs.declared.walks.Walk.TheVariants.{Start}
-use Rattle.rv_hart.specs.Learning.{learned, tlb_after}
-use Rattle.rv_tlb.specs.declared.tlb.TlbEntry.{TlbEntry}
+use Rattle.mem_ctl.specs.Data.{Again, Collision, CtlData, Fault, Outcome, Value, going}
+use Rattle.mon_enclave.specs.declared.enclave.Enclave.{Enclave}
+use Rattle.mon_enclave.specs.Records.{built, enclave_at, forked, freed, with_enclave}
+use Rattle.mon_image.specs.declared.image.Image.{Image}
+use Rattle.mon_life.specs.Making.{CreateBegun, begun_unless, create_begun, taker}
+use Rattle.mon_life.specs.Putting.{CreatePut, create_put, steps_of}
+use Rattle.mon_life.specs.Running.{RunBegun, entered, entered_unless, run_begun}
+use Rattle.mon_owner.specs.declared.owners.Owner.{Owner}
+use Rattle.mon_owner.specs.Owners.{given_to}
+use Rattle.mon_shadow.specs.Dropping.{ShadowDropped, dropped_unless, shadow_dropped}
+use Rattle.mon_shadow.specs.Forking.{fork_begun, fork_refusal_of}
+use Rattle.mon_shadow.specs.Granting.{grant_made}
+use Rattle.mon_shadow.proofs.ForkLemmas.{may_fork}
 use Rattle.pl_history.specs.declared.answer.Answer.{Answer}
 use Rattle.pl_history.specs.declared.answer.Answer.TheVariants as answer_is
 use Rattle.pl_history.specs.declared.line.Line.{Line}
 use Rattle.pl_history.specs.declared.line.Line.TheVariants as line_is
+use Rattle.pl_history.specs.declared.setup.SetupParts.{SetupParts}
+use Rattle.pl_history.specs.Protection.{pmp_of}
+use Rattle.pl_history.specs.Rules.{IsSetup}
 use Rattle.world_machine.specs.declared.under.Under.{Under}
 use Rattle.world_machine.specs.declared.under.Under.TheVariants.{Idle, Putting, Running}
 use Rattle.world_machine.specs.Answering.{answers, decided, goes_on}
-use Rattle.world_machine.specs.LinesUnderWay.{IsPutting, IsRunning, LineUnderWay, access_of}
-use Rattle.world_machine.specs.Making.{begins_unless, image_of}
-use Rattle.world_machine.specs.Pages.{part_of_word, word_offset}
-use Rattle.world_machine.specs.Running.{RunNow, acts, calls, faults, fetched_in, loads_in, reaches, receives, retired_with, retires, run_event, run_learns, run_request, run_translates, stores_in}
-use Rattle.world_machine.specs.Runs.{events_made, line_left, remaining, words_read}
+use Rattle.world_machine.specs.GivingBack.{drops_shadow}
+use Rattle.world_machine.specs.LinesUnderWay.{IsForking, LineUnderWay}
+use Rattle.world_machine.specs.Making.{answers_by, begin_create, begin_fork, begins_unless, grants_page, image_of, put_next}
+use Rattle.world_machine.specs.Running.{begin_run}
+use Rattle.world_machine.specs.Runs.{break_cost, line_left, remaining, shared_count}
 use Rattle.world_machine.specs.Standing.{Kept, state_of, written_page}
 use Rattle.world_machine.specs.Talking.{changes_unless}
-use Rattle.world_machine.specs.Translating.{Request, number_view, offset_at, page_at, reads_table}
-use Rattle.world_machine.specs.TranslationsAgree.{IsFresh, WalkingStands, walking, walking_of}
-use Rattle.world_machine.specs.Worlds.{CollisionData, Event, WorldData, answered_at, hart_line, tlb_at, under_at, with_tlb}
-use Rattle.world_machine.proofs.Lessens.{answered_less, collision_less, goes_less, some_cost}
-use Rattle.world_machine.proofs.NeverAgain.{NeverAgain, read_never, step_never, write_never}
-use Rattle.world_machine.proofs.RunMoves.{is_running, run_line}
-use Rattle.world_machine.proofs.WordsRead.{IsBelowRoot, at_most_seven, at_most_three, by_learned, by_sought, stands_below}
+use Rattle.world_machine.specs.Worlds.{CollisionData, WorldData, answered_at, hart_line, under_at}
+use Rattle.world_machine.proofs.BreaksLeft.{begun_shares, breaks_of, own_none, put_shares, shared_few, shares_more, shares_set, shares_stay}
+use Rattle.world_machine.proofs.Lessens.{SharesNoMore, answered_less, collision_less, goes_by, goes_less, some_cost}
+use Rattle.world_machine.proofs.MakeLines.{is_building, make_line}
+use Rattle.world_machine.proofs.NeverAgain.{NeverAgain, step_never}
+use Rattle.world_machine.proofs.SetupFacts.{image_few}
 
 -- what an access decides
 pub decided_less : {A : Type 0} (w left : WorldData) (then_gives : A → WorldData) (fault_gives : Place → WorldData) (o : Outcome A) → NeverAgain o
@@ -57,218 +62,178 @@ pub either_less : (w : WorldData) (b : Bool) (x y : WorldData) → remaining x <
 either_less w true x y p q = p
 either_less w false x y p q = q
 
-run_cost : (setup : _) (first : Bool) (e : EncNo) (budget count : ℕ) (micro : Micro) → line_left setup (Some (run_line first e budget)) (Running micro count) ≡ 8 * (budget - count) - events_made micro
-run_cost setup true e budget count micro = refl
-run_cost setup false e budget count micro = refl
+-- an image of a setup has 256 pages at most, and what stands for one that there isn't has none
+pages_few : (setup : SetupParts) (number : ℕ) → IsSetup setup → length (image_of setup number).pages ≤ 256
+pages_few setup number rules = by_image (slice_get setup.images number) refl
+  where
+    by_image : (o : Option Image) → slice_get setup.images number ≡ o → length (unwrap_or o (record { entry = 0; pages = [] })).pages ≤ 256
+    by_image None is = omega arith
+    by_image (Some image) is = image_few setup number image rules is
 
-run_walks : (ctl : CtlData) (Fresh : TlbEntry → Type 0) (tables : ℕ) (record_of : ℕ → Enclave) (first : Bool) (e : EncNo) (budget count : ℕ) (micro : Micro)
-    → WalkingStands ctl Fresh (walking tables record_of (Some (run_line first e budget)) (Running micro count)) → WalkingStands ctl Fresh (walking_of tables e.0 (record_of e.0) micro)
-run_walks ctl Fresh tables record_of true e budget count micro k = k
-run_walks ctl Fresh tables record_of false e budget count micro k = k
+sealed_used : (state : State) → is_sealed state ≡ true → is_free state ≡ false
+sealed_used state_is.Sealed sealed = refl
+sealed_used state sealed = absurd (false≢true sealed)
 
 module _ (digest_of : List ℕ → List ℕ) (w : WorldData) (k : Kept digest_of w) (none : w.collision ≡ None) (hart : ℕ) (below : hart < w.setup.harts) where
-  abbrev Fresh : TlbEntry → Type 0
-  Fresh = IsFresh w.setup (state_of w) w.fences hart
-
   -- ---- lines that haven't begun
 
   module _ (line : Line) (here : hart_line w hart ≡ Some line) (idle : under_at w.under hart ≡ Idle) where
-    pub answer_less : (v : WorldData) → v.setup ≡ w.setup → v.collision ≡ None → v.fences ≡ w.fences → v.under ≡ slice_set w.under hart Idle → v.answered ≡ slice_set w.answered hart (answered_at w.answered hart + 1) → remaining v < remaining w
+    pub answer_less : (v : WorldData) → v.setup ≡ w.setup → v.collision ≡ None → v.fences ≡ w.fences → SharesNoMore w v → v.under ≡ slice_set w.under hart Idle
+        → v.answered ≡ slice_set w.answered hart (answered_at w.answered hart + 1) → remaining v < remaining w
     answer_less = answered_less digest_of w k none hart below line Idle here idle (some_cost w.setup line)
 
-    pub begins_less : (o : Option No) (v : WorldData) (u : Under) → v.setup ≡ w.setup → v.collision ≡ None → v.fences ≡ w.fences → v.under ≡ w.under → v.answered ≡ w.answered
-        → line_left w.setup (Some line) u < line_left w.setup (Some line) Idle → remaining (begins_unless o v hart u) < remaining w
-    begins_less (Some cause) v u setup free fences under answered less =
-        answer_less (begins_unless (Some cause) v hart u) setup free fences (ap (λ xs. slice_set xs hart Idle) under)
+    pub begins_less : (o : Option No) (v : WorldData) (u : Under) → v.setup ≡ w.setup → v.collision ≡ None → v.fences ≡ w.fences → SharesNoMore w v
+        → v.under ≡ w.under → v.answered ≡ w.answered → line_left w.setup (Some line) u < line_left w.setup (Some line) Idle → remaining (begins_unless o v hart u) < remaining w
+    begins_less (Some cause) v u setup free fences shares under answered less =
+        answer_less (begins_unless (Some cause) v hart u) setup free fences shares (ap (λ xs. slice_set xs hart Idle) under)
         (ap (λ xs. slice_set xs hart (answered_at xs hart + 1)) answered)
-    begins_less None v u setup free fences under answered less =
-        goes_less digest_of w k none hart below line Idle here idle (begins_unless None v hart u) u setup free fences (ap (λ xs. slice_set xs hart u) under) answered less
+    begins_less None v u setup free fences shares under answered less =
+        goes_less digest_of w k none hart below line Idle here idle (begins_unless None v hart u) u setup free fences shares (ap (λ xs. slice_set xs hart u) under) answered less
 
-    pub changes_less : (o : Option No) (e : ℕ) (r : Enclave) (now : Answer) → remaining (changes_unless o w hart e r now) < remaining w
-    changes_less (Some cause) e r now = answer_less _ refl none refl refl refl
-    changes_less None e r now = answer_less _ refl none refl refl refl
+    pub changes_less : (o : Option No) (e : ℕ) (r : Enclave) (now : Answer) → r.pages ≡ (enclave_at w.enclaves e).pages
+        → remaining (changes_unless o w hart e r now) < remaining w
+    changes_less (Some cause) e r now same = answer_less _ refl none refl (le_refl _) refl refl
+    changes_less None e r now same = answer_less _ refl none refl (shares_stay w.setup.harts w.enclaves e r same) refl refl
 
-  -- ---- a number that is being made
+    -- a line that is answered at once
+    answers_less : (o : Option No) (ctl : CtlData) (owners : List Owner) (enclaves : List Enclave) → breaks_of w.setup.harts enclaves ≤ breaks_of w.setup.harts w.enclaves
+        → remaining (answers_by o (record w { ctl = ctl; owners = owners; enclaves = enclaves }) hart) < remaining w
+    answers_less (Some cause) ctl owners enclaves shares = answer_less _ refl none refl shares refl refl
+    answers_less None ctl owners enclaves shares = answer_less _ refl none refl shares refl refl
 
-  module _ (e : EncNo) (image : ℕ) (pages : List ℕ) (done : ℕ) (here : hart_line w hart ≡ Some (line_is.Create e image pages)) (so_far : under_at w.under hart ≡ Putting done) (positions : List ℕ) where
-    putting : IsPutting w.setup (written_page w) (enclave_at w.enclaves e.0) e.0 image pages done
-    putting = subst (LineUnderWay w.setup (written_page w) (enclave_at w.enclaves) (state_of w).number hart (Some (line_is.Create e image pages))) so_far
-        (subst (λ l. LineUnderWay w.setup (written_page w) (enclave_at w.enclaves) (state_of w).number hart l (under_at w.under hart)) here (k.stands.lines hart))
+  pub grant_less : (e : EncNo) (page : ℕ) → hart_line w hart ≡ Some (line_is.Grant e page) → under_at w.under hart ≡ Idle
+      → remaining (grants_page w hart e.0 page).world < remaining w
+  unfolding grant_made
+  grant_less e page here idle =
+      let made : CreateBegun = grant_made w.owners w.enclaves (pmp_of w.setup) e.0 page in
+      answers_less (line_is.Grant e page) here idle made.refusal w.ctl made.owners made.enclaves
+      (begun_shares w.setup.harts w.enclaves _ w.owners (given_to w.owners _ (taker e.0 false)) _ (shares_stay w.setup.harts w.enclaves e.0 _ refl))
 
-    some_left : 0 < line_left w.setup (Some (line_is.Create e image pages)) (Putting done)
-    some_left = let few : done < steps_of false (length (image_of w.setup image).pages) = putting.few in omega arith
+  pub drop_less : (shadow : EncNo) → hart_line w hart ≡ Some (line_is.Drop shadow) → under_at w.under hart ≡ Idle
+      → remaining (drops_shadow w hart shadow.0).world < remaining w
+  unfolding shadow_dropped
+  drop_less shadow here idle =
+      let dropped : ShadowDropped = shadow_dropped w.ctl w.owners w.enclaves shadow.0 in
+      answers_less (line_is.Drop shadow) here idle dropped.refusal dropped.ctl dropped.owners dropped.enclaves (shares _)
+    where
+      shares : (o : Option No) → breaks_of w.setup.harts (dropped_unless o w.ctl w.owners w.enclaves shadow.0).enclaves ≤ breaks_of w.setup.harts w.enclaves
+      shares (Some cause) = le_refl _
+      shares None = shares_set w.setup.harts w.enclaves shadow.0 (freed (enclave_at w.enclaves shadow.0)) (omega arith)
 
-    abbrev step : CreatePut
-    step = create_put digest_of w.setup.tables e.0 (image_of w.setup image) false done w.enclaves (going w.ctl positions)
+  -- ---- `run` and `resume` begin
 
-    abbrev left : WorldData
-    left = record w { ctl = step.put.after.ctl; enclaves = step.enclaves }
+  pub begin_run_less : (first : Bool) (e : EncNo) (line : Line) → hart_line w hart ≡ Some line → under_at w.under hart ≡ Idle
+      → line_left w.setup (Some line) (Running (Fetching Start) 0) < line_left w.setup (Some line) Idle → remaining (begin_run w hart e.0 first).world < remaining w
+  unfolding run_begun
+  begin_run_less first e line here idle less =
+      let begun : RunBegun = run_begun w.enclaves (record { 0 = hart }) e.0 first in
+      begins_less line here idle begun.refusal (record w { enclaves = begun.enclaves }) (Running (Fetching Start) 0) refl none refl (shares _) refl refl less
+    where
+      on : List Enclave
+      on = entered w.enclaves (record { 0 = hart }) e.0
 
-    pub put_less : remaining (Rattle.world_machine.specs.Making.put_next digest_of w hart positions e.0 image done).world < remaining w
-    put_less =
-        let few : done < steps_of false (length (image_of w.setup image).pages) = putting.few in
-        let answer_less = answered_less digest_of w k none hart below (line_is.Create e image pages) (Putting done) here so_far some_left in
-        decided_less w left (λ last. if last then answers left hart answer_is.Ok else goes_on left hart (Putting (done + 1))) (λ place. answers left hart (answer_is.No (refused.Fault place))) step.put.outcome
-        (step_never digest_of w.setup.tables e.0 (image_of w.setup image) false done w.enclaves (going w.ctl positions))
-        (λ last. either_less w last (answers left hart answer_is.Ok) (goes_on left hart (Putting (done + 1)))
-        (answer_less (answers left hart answer_is.Ok) refl none refl refl refl)
-        (goes_less digest_of w k none hart below (line_is.Create e image pages) (Putting done) here so_far (goes_on left hart (Putting (done + 1))) (Putting (done + 1)) refl none refl refl refl (omega arith)))
-        (λ place. answer_less (answers left hart (answer_is.No (refused.Fault place))) refl none refl refl refl)
-        (collision_less digest_of w k none hart below (line_is.Create e image pages) (Putting done) here so_far some_left)
+      shares : (o : Option No) → breaks_of w.setup.harts (entered_unless o w.enclaves on).enclaves ≤ breaks_of w.setup.harts w.enclaves
+      shares (Some cause) = le_refl _
+      shares None = shares_stay w.setup.harts w.enclaves e.0 _ refl
 
-  -- ---- a run under way
+  -- ---- `create` and `shadow`
 
-  module _ (first : Bool) (e : EncNo) (budget count : ℕ) (micro : Micro) (here : hart_line w hart ≡ Some (run_line first e budget)) (so_far : under_at w.under hart ≡ Running micro count) (positions : List ℕ) where
-    abbrev r : Enclave
-    r = enclave_at w.enclaves e.0
+  begun_costs : (shadow : Bool) (e : EncNo) (image : ℕ) (pages : List ℕ)
+      → line_left w.setup (Some (make_line shadow e image pages)) (Putting 0) < line_left w.setup (Some (make_line shadow e image pages)) Idle
+  begun_costs true e image pages = omega arith
+  begun_costs false e image pages = omega arith
 
-    abbrev run : RunNow
-    run = record { hart = hart; e = e.0; budget = budget; count = count }
+  pub begin_create_less : (shadow : Bool) (e : EncNo) (image : ℕ) (pages : List ℕ) → hart_line w hart ≡ Some (make_line shadow e image pages)
+      → under_at w.under hart ≡ Idle → remaining (begin_create w hart e.0 image pages shadow).world < remaining w
+  unfolding create_begun
+  begin_create_less shadow e image pages here idle =
+      let begun : CreateBegun = create_begun w.owners w.enclaves (pmp_of w.setup) e.0 image (image_of w.setup image) pages shadow in
+      let own : count_of_own ≤ shared_count (enclave_at w.enclaves e.0) = (let n = own_none pages in omega arith) in
+      begins_less (make_line shadow e image pages) here idle begun.refusal (record w { owners = begun.owners; enclaves = begun.enclaves }) (Putting 0) refl none refl
+      (begun_shares w.setup.harts w.enclaves _ w.owners (given_to w.owners pages (taker e.0 shadow)) _ (shares_set w.setup.harts w.enclaves e.0 _ own))
+      refl refl (begun_costs shadow e image pages)
+    where
+      count_of_own : ℕ
+      count_of_own = shared_count (built image (image_of w.setup image) pages (enclave_at w.enclaves e.0))
 
-    pub running : IsRunning w.setup (written_page w) r ((state_of w).number e.0) hart budget count micro
-    running = is_running w.setup (written_page w) (enclave_at w.enclaves) (state_of w).number hart budget count micro e first
-        (subst (LineUnderWay w.setup (written_page w) (enclave_at w.enclaves) (state_of w).number hart (Some (run_line first e budget))) so_far
-        (subst (λ l. LineUnderWay w.setup (written_page w) (enclave_at w.enclaves) (state_of w).number hart l (under_at w.under hart)) here (k.stands.lines hart)))
+  -- one page more of a number that is being made is put
+  module _ (line : Line) (here : hart_line w hart ≡ Some line) (done : ℕ) (so_far : under_at w.under hart ≡ Putting done) (positions : List ℕ)
+      (more : line_left w.setup (Some line) (Putting (done + 1)) < line_left w.setup (Some line) (Putting done)) where
+    some_left : 0 < line_left w.setup (Some line) (Putting done)
+    some_left = let m : line_left w.setup (Some line) (Putting (done + 1)) < line_left w.setup (Some line) (Putting done) = more in omega arith
 
-    run_left : 0 < line_left w.setup (Some (run_line first e budget)) (Running micro count)
-    run_left = let within : count < budget = running.within in let is = run_cost w.setup first e budget count micro in let m = at_most_seven micro in omega arith
+    module _ (e image : ℕ) (shadow : Bool) where
+      abbrev step : CreatePut
+      step = create_put digest_of w.setup.tables e (image_of w.setup image) shadow done w.enclaves (going w.ctl positions)
 
-    ends_less : (v : WorldData) → v.setup ≡ w.setup → v.collision ≡ None → v.fences ≡ w.fences → v.under ≡ slice_set w.under hart Idle
-        → v.answered ≡ slice_set w.answered hart (answered_at w.answered hart + 1) → remaining v < remaining w
-    ends_less = answered_less digest_of w k none hart below (run_line first e budget) (Running micro count) here so_far run_left
+      abbrev left : WorldData
+      left = record w { ctl = step.put.after.ctl; enclaves = step.enclaves }
 
-    on_less : (v : WorldData) (micro' : Micro) (count' : ℕ) → v.setup ≡ w.setup → v.collision ≡ None → v.fences ≡ w.fences → v.under ≡ slice_set w.under hart (Running micro' count')
-        → v.answered ≡ w.answered → 8 * (budget - count') - events_made micro' < 8 * (budget - count) - events_made micro → remaining v < remaining w
-    on_less v micro' count' setup free fences under answered less =
-        goes_less digest_of w k none hart below (run_line first e budget) (Running micro count) here so_far v (Running micro' count') setup free fences under answered
-        (subst (λ n. n < line_left w.setup (Some (run_line first e budget)) (Running micro count)) (sym (run_cost w.setup first e budget count' micro'))
-        (subst (λ n. 8 * (budget - count') - events_made micro' < n) (sym (run_cost w.setup first e budget count micro)) less))
+      shares : breaks_of w.setup.harts step.enclaves ≤ breaks_of w.setup.harts w.enclaves
+      unfolding create_put
+      shares = put_shares w.setup.harts w.enclaves _ shadow e
 
-    -- the instruction goes on
-    further_less : (v : WorldData) (micro' : Micro) → v.setup ≡ w.setup → v.collision ≡ None → v.fences ≡ w.fences → v.under ≡ slice_set w.under hart (Running micro' count)
-        → v.answered ≡ w.answered → events_made micro < events_made micro' → remaining v < remaining w
-    further_less v micro' setup free fences under answered more =
-        on_less v micro' count setup free fences under answered (let within : count < budget = running.within in let m = at_most_seven micro' in omega arith)
+      put_less : remaining (put_next digest_of w hart positions e image shadow done).world < remaining w
+      put_less =
+          let ends_less = answered_less digest_of w k none hart below line (Putting done) here so_far some_left in
+          decided_less w left (λ last. if last then answers left hart answer_is.Ok else goes_on left hart (Putting (done + 1)))
+          (λ place. answers left hart (answer_is.No (refused.Fault place))) step.put.outcome (step_never digest_of w.setup.tables e (image_of w.setup image) shadow done w.enclaves (going w.ctl positions))
+          (λ last. either_less w last (answers left hart answer_is.Ok) (goes_on left hart (Putting (done + 1)))
+          (ends_less (answers left hart answer_is.Ok) refl none refl shares refl refl)
+          (goes_less digest_of w k none hart below line (Putting done) here so_far (goes_on left hart (Putting (done + 1))) (Putting (done + 1))
+          refl none refl shares refl refl more))
+          (λ place. ends_less (answers left hart (answer_is.No (refused.Fault place))) refl none refl shares refl refl)
+          (collision_less digest_of w k none hart below line (Putting done) here so_far some_left)
 
-    clash_less : (v : WorldData) (c : CollisionData) → v.collision ≡ Some c → remaining v < remaining w
-    clash_less = collision_less digest_of w k none hart below (run_line first e budget) (Running micro count) here so_far run_left
+  -- what is so far of a line that stands
+  pub stands_so : (line : Line) (under : Under) → hart_line w hart ≡ Some line → under_at w.under hart ≡ under
+      → LineUnderWay w.setup (written_page w) (enclave_at w.enclaves) (state_of w).number hart (Some line) under
+  stands_so line under here so_far =
+      subst (LineUnderWay w.setup (written_page w) (enclave_at w.enclaves) (state_of w).number hart (Some line)) so_far
+      (subst (λ l. LineUnderWay w.setup (written_page w) (enclave_at w.enclaves) (state_of w).number hart l (under_at w.under hart)) here (k.stands.lines hart))
 
-    -- in a world that an access left
-    module _ (ctl : CtlData) where
-      abbrev left_by : WorldData
-      left_by = record w { ctl = ctl }
+  pub make_less : (shadow : Bool) (e : EncNo) (image : ℕ) (pages : List ℕ) (done : ℕ) → hart_line w hart ≡ Some (make_line shadow e image pages)
+      → under_at w.under hart ≡ Putting done → (positions : List ℕ) → remaining (put_next digest_of w hart positions e.0 image shadow done).world < remaining w
+  make_less shadow e image pages done here so_far positions =
+      let building = is_building e image pages w.setup (written_page w) (enclave_at w.enclaves) (state_of w).number hart done shadow (stands_so _ _ here so_far) in
+      put_less (make_line shadow e image pages) here done so_far positions (more shadow building.putting.few) e.0 image shadow
+    where
+      more : (b : Bool) → done < steps_of b (length (image_of w.setup image).pages)
+          → line_left w.setup (Some (make_line b e image pages)) (Putting (done + 1)) < line_left w.setup (Some (make_line b e image pages)) (Putting done)
+      more true few = let f : done < length (image_of w.setup image).pages = few in omega arith
+      more false few = let f : done < length (image_of w.setup image).pages + 3 = few in omega arith
 
-      retire_less : (now : Enclave) → remaining (retires left_by run now) < remaining w
-      retire_less now = either_less w (count + 1 == budget) _ _ (ends_less _ refl none refl refl refl)
-          (on_less _ (Fetching Start) (count + 1) refl none refl refl refl (let within : count < budget = running.within in let m = at_most_seven micro in omega arith))
+  -- ---- `fork`
 
-      receive_less : (o : Option ℕ) → remaining (receives left_by run r o) < remaining w
-      receive_less None = ends_less _ refl none refl refl refl
-      receive_less (Some word) = retire_less _
+  module _ (shadow e : EncNo) (pages : List ℕ) (here : hart_line w hart ≡ Some (line_is.Fork shadow e pages)) where
+    -- the line has cost the breaks of all pages that the number shares
+    module _ (idle : under_at w.under hart ≡ Idle) (done : ℕ) where
+      abbrev making : List Enclave
+      making = with_enclave w.enclaves e.0 (forked shadow (enclave_at w.enclaves shadow.0) pages (enclave_at w.enclaves e.0))
 
-      call_less : (number value : ℕ) → remaining (calls left_by run r number value) < remaining w
-      call_less number value =
-          either_less w (number == 1) _ _ (ends_less _ refl none refl refl refl)
-          (either_less w (number == 2) _ _ (receive_less (received_word r))
-          (either_less w (number == 3) _ _ (either_less w (has_room r) _ _ (retire_less _) (ends_less _ refl none refl refl refl)) (ends_less _ refl none refl refl refl)))
+      breaks_more : fork_refusal_of w.owners w.enclaves (pmp_of w.setup) shadow.0 e.0 pages ≡ None
+          → breaks_of w.setup.harts making ≤ breaks_of w.setup.harts w.enclaves + 256 * break_cost w.setup.harts
+      breaks_more none =
+          let may = may_fork w.owners w.enclaves (pmp_of w.setup) shadow.0 e.0 pages none in
+          let source : Enclave = enclave_at w.enclaves shadow.0 in
+          let stands = k.stands.enclaves shadow.0 (sealed_used source.state may.sealed) in
+          let few = image_few w.setup source.image stands.image k.sizes.rules stands.image_is in
+          shares_more w.setup.harts w.enclaves e.0 (forked shadow source pages (enclave_at w.enclaves e.0)) 256 (omega (arith, stands.held.count, few, shared_few source.pages))
 
-      act_less : events_made micro < 4 → (word : ℕ) (act : Act) → remaining (acts left_by run r word act) < remaining w
-      act_less first_half word (Set context) = retire_less _
-      act_less first_half word (Load address width is_signed rd) = further_less _ (Reaching word Start) refl none refl refl refl (omega arith)
-      act_less first_half word (Store address width value) = further_less _ (Reaching word Start) refl none refl refl refl (omega arith)
-      act_less first_half word (Call number value) = call_less number value
-      act_less first_half word (Trap cause value) = ends_less _ refl none refl refl refl
+      begun_less : (o : Option No) → fork_refusal_of w.owners w.enclaves (pmp_of w.setup) shadow.0 e.0 pages ≡ o → (taken : List Owner)
+          → let begun : CreateBegun = begun_unless o w.owners w.enclaves taken making in
+          remaining (begins_unless begun.refusal (record w { owners = begun.owners; enclaves = begun.enclaves }) hart (Putting done)) < remaining w
+      begun_less (Some cause) is taken = answer_less (line_is.Fork shadow e pages) here idle _ refl none refl (le_refl _) refl refl
+      begun_less None is taken =
+          goes_by digest_of w k none hart below (line_is.Fork shadow e pages) Idle here idle _ (Putting done) refl none refl refl (let more = breaks_more is in omega arith)
 
-    fetch_less : events_made micro < 4 → (o : Option ℕ) → remaining (fetched_in digest_of w run r positions o).world < remaining w
-    fetch_less first_half None = ends_less _ refl none refl refl refl
-    fetch_less first_half (Some page) =
-        let access : After ℕ = read_word_of digest_of page (word_offset r.context.pc) (going w.ctl positions) in
-        decided_less w (record w { ctl = access.after.ctl })
-        (λ eight. acts (record w { ctl = access.after.ctl }) run r (part_of_word eight r.context.pc 4) (act_of r.context (part_of_word eight r.context.pc 4)))
-        (faults run r (record w { ctl = access.after.ctl })) access.outcome (read_never digest_of page (word_offset r.context.pc) (going w.ctl positions))
-        (λ eight. act_less access.after.ctl first_half (part_of_word eight r.context.pc 4) (act_of r.context (part_of_word eight r.context.pc 4)))
-        (λ place. ends_less _ refl none refl refl refl) clash_less
+    pub begin_fork_less : under_at w.under hart ≡ Idle → remaining (begin_fork w hart shadow e.0 pages).world < remaining w
+    unfolding fork_begun
+    begin_fork_less idle = begun_less idle _ _ refl _
 
-    load_less : (address width : ℕ) (is_signed : Bool) (rd : ℕ) (o : Option ℕ) → remaining (loads_in digest_of w run r positions address width is_signed rd o).world < remaining w
-    load_less address width is_signed rd None = ends_less _ refl none refl refl refl
-    load_less address width is_signed rd (Some page) =
-        let access : After ℕ = read_word_of digest_of page (word_offset address) (going w.ctl positions) in
-        decided_less w (record w { ctl = access.after.ctl })
-        (λ eight. retires (record w { ctl = access.after.ctl }) run (retired_with r (loaded r.context rd width is_signed (part_of_word eight address width))))
-        (faults run r (record w { ctl = access.after.ctl })) access.outcome (read_never digest_of page (word_offset address) (going w.ctl positions))
-        (λ eight. retire_less access.after.ctl (retired_with r (loaded r.context rd width is_signed (part_of_word eight address width))))
-        (λ place. ends_less _ refl none refl refl refl) clash_less
-
-    store_less : (address width value : ℕ) (o : Option ℕ) → remaining (stores_in digest_of w run r positions address width value o).world < remaining w
-    store_less address width value None = ends_less _ refl none refl refl refl
-    store_less address width value (Some page) =
-        let access : After (Unit {0}) = write_part_of digest_of page (address % 4096) width value (going w.ctl positions) in
-        decided_less w (record w { ctl = access.after.ctl }) (λ done. retires (record w { ctl = access.after.ctl }) run (retired_with r (advanced r.context)))
-        (faults run r (record w { ctl = access.after.ctl })) access.outcome (write_never digest_of page (address % 4096) width value (going w.ctl positions))
-        (λ done. retire_less access.after.ctl (retired_with r (advanced r.context)))
-        (λ place. ends_less _ refl none refl refl refl) clash_less
-
-    -- A word of a table that is read leaves the instruction further: with a walk that has read more, or without a page.
-    module _ (on : Walk → Micro) (walk : Walk) (va : ℕ) (access : Kind) (stands : IsBelowRoot walk)
-        (further : (next : Walk) → words_read walk < words_read next → events_made micro < events_made (on next)) (early : words_read walk < 3 → events_made micro < 7) where
-      table_less : words_read walk < 3 → (pa : Pa)
-          → remaining (reads_table digest_of w (run_request w run va access) positions walk (run_learns run on va access) (faults run r) pa).world < remaining w
-      table_less asks pa =
-          let request : Request = run_request w run va access in
-          let read : After ℕ = read_word_of digest_of (page_at pa) (offset_at pa) (going w.ctl positions) in
-          let left : WorldData = record w { ctl = read.after.ctl } in
-          decided_less w left
-          (λ word. run_learns run on va access (with_tlb left hart (tlb_after walk word request.va access request.view (tlb_at w.tlbs hart))) (learned walk word request.va access request.view))
-          (faults run r left) read.outcome (read_never digest_of (page_at pa) (offset_at pa) (going w.ctl positions))
-          (λ word. by_learned (λ result. remaining (run_learns run on va access (with_tlb left hart (tlb_after walk word request.va access request.view (tlb_at w.tlbs hart))) result) < remaining w)
-          access walk stands asks
-          (λ next more. further_less _ (on next) refl none refl refl refl (further next more))
-          (λ no_page. further_less _ (Faulting va access) refl none refl refl refl (early asks))
-          word request.va request.view)
-          (λ place. ends_less _ refl none refl refl refl) clash_less
-
-      translates_less : (reach : Option ℕ → Event) → ((o : Option ℕ) → remaining (reach o).world < remaining w)
-          → remaining (run_translates digest_of w run r positions on walk va access reach).world < remaining w
-      translates_less reach each =
-          by_sought (λ event. remaining event.world < remaining w) w (run_request w run va access)
-          (reads_table digest_of w (run_request w run va access) positions walk (run_learns run on va access) (faults run r)) (λ pa. reach (option_map page_at pa))
-          walk table_less (λ pa. each (option_map page_at pa))
-
-    -- data is sought by an instruction that loads or stores alone
-    module _ (word : ℕ) (walk : Walk) (made : events_made micro ≡ 4 + words_read walk) where
-      reach_less : (act : Act) (access : Kind × ℕ) → access_of act ≡ Some access
-          → WalkingStands w.ctl Fresh
-          (option_map (λ (a : Kind × ℕ). record { view = number_view w.setup.tables e.0; va = record { 0 = a.1 }; walk = walk }) (access_of act))
-          → remaining (reaches digest_of w run r positions word walk act).world < remaining w
-      reach_less (Load address width is_signed rd) access is stands =
-          translates_less (Reaching word) walk address kind.Load (stands_below w.ctl Fresh (number_view w.setup.tables e.0) (record { 0 = address }) walk stands) (λ next more. omega arith) (λ asks. omega arith)
-          (loads_in digest_of w run r positions address width is_signed rd) (load_less address width is_signed rd)
-      reach_less (Store address width value) access is stands =
-          translates_less (Reaching word) walk address kind.Store (stands_below w.ctl Fresh (number_view w.setup.tables e.0) (record { 0 = address }) walk stands) (λ next more. omega arith) (λ asks. omega arith)
-          (stores_in digest_of w run r positions address width value) (store_less address width value)
-      reach_less (Set context) access is stands = cc
-      reach_less (Call number value) access is stands = cc
-      reach_less (Trap cause value) access is stands = cc
-
-  -- the walk of a run stands
-  walk_stands : (first : Bool) (e : EncNo) (budget count : ℕ) (micro : Micro) → hart_line w hart ≡ Some (run_line first e budget) → under_at w.under hart ≡ Running micro count
-      → WalkingStands w.ctl Fresh (walking_of w.setup.tables e.0 (enclave_at w.enclaves e.0) micro)
-  walk_stands first e budget count micro here so_far =
-      run_walks w.ctl Fresh w.setup.tables (enclave_at w.enclaves) first e budget count micro
-      (subst (λ u. WalkingStands w.ctl Fresh (walking w.setup.tables (enclave_at w.enclaves) (Some (run_line first e budget)) u)) so_far
-      (subst (λ l. WalkingStands w.ctl Fresh (walking w.setup.tables (enclave_at w.enclaves) l (under_at w.under hart))) here
-      (k.stands.translations.fresh.walks hart)))
-
-  pub run_less : (first : Bool) (e : EncNo) (budget count : ℕ) (micro : Micro) → hart_line w hart ≡ Some (run_line first e budget) → under_at w.under hart ≡ Running micro count → (positions : List ℕ)
-      → remaining (run_event digest_of w (record { hart = hart; e = e.0; budget = budget; count = count }) (enclave_at w.enclaves e.0) positions micro).world < remaining w
-  run_less first e budget count (Fetching walk) here so_far positions =
-      translates_less first e budget count (Fetching walk) here so_far positions Fetching walk (enclave_at w.enclaves e.0).context.pc kind.Fetch
-      (stands_below w.ctl Fresh (number_view w.setup.tables e.0) (record { 0 = (enclave_at w.enclaves e.0).context.pc }) walk
-      (walk_stands first e budget count (Fetching walk) here so_far)) (λ next more. more) (λ asks. omega arith)
-      (fetched_in digest_of w (record { hart = hart; e = e.0; budget = budget; count = count }) (enclave_at w.enclaves e.0) positions)
-      (fetch_less first e budget count (Fetching walk) here so_far positions (let few = at_most_three walk in omega arith))
-  run_less first e budget count (Reaching word walk) here so_far positions =
-      let stands = (running first e budget count (Reaching word walk) here so_far positions).instruction in
-      reach_less first e budget count (Reaching word walk) here so_far positions word walk refl (act_of (enclave_at w.enclaves e.0).context word) stands.0 stands.1.access_is
-      (walk_stands first e budget count (Reaching word walk) here so_far)
-  run_less first e budget count (Faulting va access) here so_far positions = ends_less first e budget count (Faulting va access) here so_far positions _ refl none refl refl refl
+    pub fork_less : (done : ℕ) → under_at w.under hart ≡ Putting done → (positions : List ℕ)
+        → remaining (put_next digest_of w hart positions e.0 (enclave_at w.enclaves e.0).image false done).world < remaining w
+    fork_less done so_far positions =
+        let forking : IsForking w.setup (written_page w) (enclave_at w.enclaves e.0) e.0 done = stands_so (line_is.Fork shadow e pages) (Putting done) here so_far in
+        let few = pages_few w.setup (enclave_at w.enclaves e.0).image k.sizes.rules in
+        put_less (line_is.Fork shadow e pages) here done so_far positions (omega (arith, few, forking.putting.few)) e.0 (enclave_at w.enclaves e.0).image false

@@ -2,51 +2,47 @@
 use Rattle.std.proofs.Common.{◌≡◌, ℕ, ◌+◌, ◌-◌, ◌<◌, ◌≤◌, leb, Bool, true, false, if◌then◌else◌, List, length, sum_by, Option, Some, None, is_some, refl, sym, ap, ◌∙◌, subst, arith}
 use Rattle.std.specs.Prelude.{slice_set, IsTrue}
 use Rattle.std.specs.List.{range_with_len}
+use Rattle.std.proofs.Math.Nat.{le_refl}
 use Rattle.std.proofs.lemmas.Bool.{false≢true}
 use Rattle.std.proofs.lemmas.Bool.Decides.{nat_tests}
 use Rattle.std.proofs.lemmas.Option.{slice_get_within}
 use Rattle.pl_base.specs.declared.actor.Actor.{Actor}
 use Rattle.pl_base.specs.declared.actor.Actor.TheVariants as actor_is
 use Rattle.pl_base.specs.declared.address.Va.{Va}
-use Rattle.pl_base.specs.declared.number.EncNo.{EncNo}
 use Rattle.pl_base.specs.declared.number.HartSet.{HartSet}
 use Rattle.mon_enclave.specs.Records.{enclave_at, send_refusal, take_refusal}
-use Rattle.mon_life.specs.Making.{CreateBegun, create_begun}
-use Rattle.mon_life.specs.Running.{RunBegun, run_begun}
-use Rattle.rv_hart.specs.declared.walks.Micro.TheVariants.{Fetching}
 use Rattle.rv_hart.specs.declared.walks.Walk.{Walk}
-use Rattle.rv_hart.specs.declared.walks.Walk.TheVariants.{Start}
 use Rattle.rv_tlb.specs.declared.tlb.TlbEntry.{TlbEntry}
 use Rattle.pl_history.specs.declared.answer.Answer.TheVariants as answer_is
 use Rattle.pl_history.specs.declared.line.AttackLine.{AttackLine}
 use Rattle.pl_history.specs.declared.line.AttackLine.TheVariants as attack
 use Rattle.pl_history.specs.declared.line.Line.{Line}
-use Rattle.pl_history.specs.declared.line.Line.TheVariants.{Load, Store, Map, Unmap, Create, Run, Resume, Send, Take, Destroy, After}
+use Rattle.pl_history.specs.declared.line.Line.TheVariants.{Load, Store, Map, Unmap, Create, Shadow, Fork, Grant, Run, Resume, Send, Take, Destroy, Drop, After}
 use Rattle.pl_history.specs.declared.setup.SetupParts.{SetupParts}
-use Rattle.pl_history.specs.Protection.{pmp_of}
 use Rattle.pl_history.specs.Rules.{is_actor}
 use Rattle.world_machine.specs.declared.turned.Turned.{Turned}
 use Rattle.world_machine.specs.declared.turned.Turned.TheVariants as turned
 use Rattle.world_machine.specs.declared.turned.Wait.TheVariants as wait
 use Rattle.world_machine.specs.declared.under.Under.{Under}
-use Rattle.world_machine.specs.declared.under.Under.TheVariants.{Idle, Seeking, Removing, Destroying, Putting, Running}
+use Rattle.world_machine.specs.declared.under.Under.TheVariants.{Idle, Seeking, Removing, Destroying, Putting, Running, Breaking}
 use Rattle.world_machine.specs.Acknowledging.{owed}
 use Rattle.world_machine.specs.Answering.{answers}
 use Rattle.world_machine.specs.GivingBack.{ends_destroy}
 use Rattle.world_machine.specs.HostAccessing.{WordAccess, loads, stores}
 use Rattle.world_machine.specs.HostMapping.{ends_unmap, lacked_by}
-use Rattle.world_machine.specs.Making.{image_of}
-use Rattle.world_machine.specs.Running.{begin_run}
-use Rattle.world_machine.specs.Runs.{attacker_left, fences_left, hart_left, line_left, remaining}
+use Rattle.world_machine.specs.Running.{restarts}
+use Rattle.world_machine.specs.Runs.{attacker_left, fences_left, hart_left, remaining}
 use Rattle.world_machine.specs.Standing.{Kept, state_of}
 use Rattle.world_machine.specs.Steps.{Step, Turn, ack_turn, actor_turn, attacker_turn, counted, due, hart_turn, moves, rests, stepped, turn_of, turned_by, waiting_turn, world_after}
 use Rattle.world_machine.specs.Translating.{host_view}
 use Rattle.world_machine.specs.TranslationsAgree.{IsFresh, WalkingStands, walking}
 use Rattle.world_machine.specs.Worlds.{CollisionData, Event, WorldData, answered_at, attacker_line, hart_line, under_at}
+use Rattle.world_machine.proofs.BreaksLeft.{breaks_of}
 use Rattle.world_machine.proofs.FencesLeft.{needs_left}
 use Rattle.world_machine.proofs.LessDestroyRows.{begins_destroy_less, ends_destroy_less}
 use Rattle.world_machine.proofs.LessHostRows.{access_line, acknowledged_less, begins_access_less, begins_unmap_less, ends_unmap_less, maps_less, seeks_less}
-use Rattle.world_machine.proofs.LessRows.{answer_less, begins_less, changes_less, put_less, run_less}
+use Rattle.world_machine.proofs.LessRows.{answer_less, begin_create_less, begin_fork_less, begin_run_less, changes_less, drop_less, fork_less, grant_less, make_less}
+use Rattle.world_machine.proofs.LessRunRows.{restart_less, run_less}
 use Rattle.world_machine.proofs.Lessens.{all_left, left_of, remaining_is}
 use Rattle.world_machine.proofs.Lists.{ChangedAt, changed_set}
 use Rattle.world_machine.proofs.Sums.{sums_below}
@@ -72,19 +68,6 @@ ends_less w ended (Some harts) less = refl
 
 module _ (digest_of : List ℕ → List ℕ) (w : WorldData) (k : Kept digest_of w) (none : w.collision ≡ None) where
   module _ (hart : ℕ) (below : hart < w.setup.harts) (positions : List ℕ) where
-    create_less : (e : EncNo) (image : ℕ) (pages : List ℕ) → hart_line w hart ≡ Some (Create e image pages) → under_at w.under hart ≡ Idle
-        → LessTurn w (due digest_of w hart positions (Create e image pages) Idle)
-    create_less e image pages here idle =
-        let begun : CreateBegun = create_begun w.owners w.enclaves (pmp_of w.setup) e.0 image (image_of w.setup image) pages false in
-        begins_less digest_of w k none hart below (Create e image pages) here idle begun.refusal (record w { owners = begun.owners; enclaves = begun.enclaves }) (Putting 0)
-        refl none refl refl refl (omega arith)
-
-    begin_less : (first : Bool) (e : EncNo) (line : Line) → hart_line w hart ≡ Some line → under_at w.under hart ≡ Idle
-        → line_left w.setup (Some line) (Running (Fetching Start) 0) < line_left w.setup (Some line) Idle → remaining (begin_run w hart e.0 first).world < remaining w
-    begin_less first e line here idle less =
-        let begun : RunBegun = run_begun w.enclaves (record { 0 = hart }) e.0 first in
-        begins_less digest_of w k none hart below line here idle begun.refusal (record w { enclaves = begun.enclaves }) (Running (Fetching Start) 0) refl none refl refl refl less
-
     -- the walk of an access of the host stands
     walk_stands : (va : Va) (access : WordAccess) (walk : Walk) → hart_line w hart ≡ Some (access_line va access) → under_at w.under hart ≡ Seeking walk → IsBelowRoot walk
     walk_stands va access walk here so_far =
@@ -93,7 +76,7 @@ module _ (digest_of : List ℕ → List ℕ) (w : WorldData) (k : Kept digest_of
         (subst (λ l. WalkingStands w.ctl Fresh (walking w.setup.tables (enclave_at w.enclaves) l (under_at w.under hart))) here (k.stands.translations.fresh.walks hart)))
       where
         Fresh : TlbEntry → Type 0
-        Fresh = IsFresh w.setup (state_of w) w.fences hart
+        Fresh = IsFresh w.setup (enclave_at w.enclaves) (state_of w) w.fences hart
 
         by_access : (a : WordAccess) → WalkingStands w.ctl Fresh (walking w.setup.tables (enclave_at w.enclaves) (Some (access_line va a)) (Seeking walk)) → IsBelowRoot walk
         by_access loads stands = stands_below w.ctl Fresh (host_view w.setup.tables) va walk stands
@@ -112,20 +95,31 @@ module _ (digest_of : List ℕ → List ℕ) (w : WorldData) (k : Kept digest_of
     due_less (Destroy e) Idle here so_far = begins_destroy_less digest_of w k none hart below e here so_far
     due_less (Destroy e) Destroying here so_far =
         ends_less w (ends_destroy w hart e) (lacked_by w hart) (ends_destroy_less digest_of w k none hart below e here so_far)
-    due_less (Create e image pages) Idle here so_far = create_less e image pages here so_far
-    due_less (Create e image pages) (Putting done) here so_far = put_less digest_of w k none hart below e image pages done here so_far positions
-    due_less (Run e budget) Idle here so_far = begin_less true e (Run e budget) here so_far (omega arith)
+    due_less (Drop shadow) Idle here so_far = drop_less digest_of w k none hart below shadow here so_far
+    due_less (Create e image pages) Idle here so_far = begin_create_less digest_of w k none hart below false e image pages here so_far
+    due_less (Create e image pages) (Putting done) here so_far = make_less digest_of w k none hart below false e image pages done here so_far positions
+    due_less (Shadow e image pages) Idle here so_far = begin_create_less digest_of w k none hart below true e image pages here so_far
+    due_less (Shadow e image pages) (Putting done) here so_far = make_less digest_of w k none hart below true e image pages done here so_far positions
+    due_less (Fork shadow e pages) Idle here so_far = begin_fork_less digest_of w k none hart below shadow e pages here so_far
+    due_less (Fork shadow e pages) (Putting done) here so_far = fork_less digest_of w k none hart below shadow e pages here done so_far positions
+    due_less (Grant e page) Idle here so_far = grant_less digest_of w k none hart below e page here so_far
+    due_less (Run e budget) Idle here so_far = begin_run_less digest_of w k none hart below true e (Run e budget) here so_far (omega arith)
     due_less (Run e budget) (Running micro count) here so_far =
         run_less digest_of w k none hart below true e budget count micro here so_far positions
-    due_less (Resume e budget) Idle here so_far = begin_less false e (Resume e budget) here so_far (omega arith)
+    due_less (Run e budget) (Breaking count) here so_far =
+        ends_less w (restarts w hart count) (lacked_by w hart) (restart_less digest_of w k none hart below true e budget count here so_far)
+    due_less (Resume e budget) Idle here so_far = begin_run_less digest_of w k none hart below false e (Resume e budget) here so_far (omega arith)
     due_less (Resume e budget) (Running micro count) here so_far =
         run_less digest_of w k none hart below false e budget count micro here so_far positions
+    due_less (Resume e budget) (Breaking count) here so_far =
+        ends_less w (restarts w hart count) (lacked_by w hart) (restart_less digest_of w k none hart below false e budget count here so_far)
     due_less (Send e word) Idle here so_far =
-        changes_less digest_of w k none hart below (Send e word) here so_far (send_refusal (enclave_at w.enclaves e.0)) e.0 _ answer_is.Ok
+        changes_less digest_of w k none hart below (Send e word) here so_far (send_refusal (enclave_at w.enclaves e.0)) e.0 _ answer_is.Ok refl
     due_less (Take e) Idle here so_far =
-        changes_less digest_of w k none hart below (Take e) here so_far (take_refusal (enclave_at w.enclaves e.0)) e.0 _ _
+        changes_less digest_of w k none hart below (Take e) here so_far (take_refusal (enclave_at w.enclaves e.0)) e.0 _ _ refl
     due_less (After actor count) Idle here so_far =
-        waits_less w actor count _ (leb count (answered_at w.answered actor)) (answer_less digest_of w k none hart below (After actor count) here so_far (answers w hart answer_is.Ok) refl none refl refl refl)
+        waits_less w actor count _ (leb count (answered_at w.answered actor))
+        (answer_less digest_of w k none hart below (After actor count) here so_far (answers w hart answer_is.Ok) refl none refl (le_refl _) refl refl)
     due_less line under here so_far = refl
 
     hart_less : (line : Option Line) → hart_line w hart ≡ line → LessTurn w (hart_turn digest_of w hart positions line)
@@ -138,9 +132,9 @@ module _ (digest_of : List ℕ → List ℕ) (w : WorldData) (k : Kept digest_of
     some_lines : answered_at w.answered w.setup.harts < length w.setup.attacker
     some_lines = slice_get_within w.setup.attacker (answered_at w.answered w.setup.harts) line here
 
-    attacker_less : (v : WorldData) → v.setup ≡ w.setup → v.collision ≡ None → v.fences ≡ w.fences → v.under ≡ w.under
+    attacker_less : (v : WorldData) → v.setup ≡ w.setup → v.collision ≡ None → v.fences ≡ w.fences → v.enclaves ≡ w.enclaves → v.under ≡ w.under
         → v.answered ≡ slice_set w.answered w.setup.harts (answered_at w.answered w.setup.harts + 1) → remaining v < remaining w
-    attacker_less v setup free fences under answered =
+    attacker_less v setup free fences enclaves under answered =
         let changed : ChangedAt 0 w.answered v.answered w.setup.harts (answered_at w.answered w.setup.harts + 1)
         = subst (λ xs. ChangedAt 0 w.answered xs w.setup.harts (answered_at w.answered w.setup.harts + 1)) (sym answered)
         (changed_set 0 w.answered w.setup.harts (answered_at w.answered w.setup.harts + 1) (let n : length w.answered ≡ w.setup.harts + 1 = k.sizes.actors in omega arith)) in
@@ -153,6 +147,8 @@ module _ (digest_of : List ℕ → List ℕ) (w : WorldData) (k : Kept digest_of
         let sums : sum_by (hart_left v) (range_with_len 0 w.setup.harts) ≤ sum_by (hart_left w) (range_with_len 0 w.setup.harts)
         = sums_below (hart_left v) (hart_left w) 0 w.setup.harts (λ h low few. let s : hart_left v h ≡ hart_left w h = stays h (let f : h < 0 + w.setup.harts = few in omega arith) in omega arith) in
         let needs : fences_left v ≡ fences_left w = ap (λ (p : SetupParts). needs_left p.harts v.fences) setup ∙ ap (needs_left w.setup.harts) fences in
+        let breaks : breaks_of v.setup.harts v.enclaves ≡ breaks_of w.setup.harts w.enclaves
+        = ap (λ (p : SetupParts). breaks_of p.harts v.enclaves) setup ∙ ap (breaks_of w.setup.harts) enclaves in
         let new : remaining v ≡ all_left v = remaining_is v free in
         let old : remaining w ≡ all_left w = remaining_is w none in
         let same : sum_by (hart_left v) (range_with_len 0 v.setup.harts) ≡ sum_by (hart_left v) (range_with_len 0 w.setup.harts)
@@ -163,10 +159,10 @@ module _ (digest_of : List ℕ → List ℕ) (w : WorldData) (k : Kept digest_of
   attack_less : (line : Option AttackLine) → attacker_line w ≡ line → LessTurn w (attacker_turn digest_of w line)
   attack_less None here = refl
   attack_less (Some (attack.After actor count)) here =
-      waits_less w actor count _ (leb count (answered_at w.answered actor)) (attacker_less (attack.After actor count) here _ refl none refl refl refl)
-  attack_less (Some (attack.Write pa bytes)) here = attacker_less (attack.Write pa bytes) here _ refl none refl refl refl
-  attack_less (Some (attack.Keep name pa len)) here = attacker_less (attack.Keep name pa len) here _ refl none refl refl refl
-  attack_less (Some (attack.Back name)) here = attacker_less (attack.Back name) here _ refl none refl refl refl
+      waits_less w actor count _ (leb count (answered_at w.answered actor)) (attacker_less (attack.After actor count) here _ refl none refl refl refl refl)
+  attack_less (Some (attack.Write pa bytes)) here = attacker_less (attack.Write pa bytes) here _ refl none refl refl refl refl
+  attack_less (Some (attack.Keep name pa len)) here = attacker_less (attack.Keep name pa len) here _ refl none refl refl refl refl
+  attack_less (Some (attack.Back name)) here = attacker_less (attack.Back name) here _ refl none refl refl refl refl
 
   ack_less : (hart : ℕ) → hart < w.setup.harts → (o : Option ℕ) → owed w.fences hart ≡ o → LessTurn w (ack_turn w hart o)
   ack_less hart below None is = refl

@@ -13,6 +13,7 @@ use Rattle.world_machine.specs.declared.under.Under.TheVariants.{Idle}
 use Rattle.world_machine.specs.Runs.{attacker_left, cost_of, fences_left, hart_left, line_left, remaining}
 use Rattle.world_machine.specs.Standing.{Kept}
 use Rattle.world_machine.specs.Worlds.{CollisionData, WorldData, answered_at, hart_line, under_at}
+use Rattle.world_machine.proofs.BreaksLeft.{breaks_of}
 use Rattle.world_machine.proofs.FencesLeft.{needs_left}
 use Rattle.world_machine.proofs.Lists.{ChangedAt, changed_none, changed_set}
 use Rattle.world_machine.proofs.Sums.{sum_changes}
@@ -30,6 +31,8 @@ some_cost setup (line_is.Store va word) = omega arith
 some_cost setup (line_is.Unmap va) = omega arith
 some_cost setup (line_is.Destroy e) = omega arith
 some_cost setup (line_is.Create e image pages) = omega arith
+some_cost setup (line_is.Shadow e image pages) = omega arith
+some_cost setup (line_is.Fork shadow e pages) = omega arith
 some_cost setup (line_is.Run e budget) = omega arith
 some_cost setup (line_is.Resume e budget) = omega arith
 some_cost setup line = omega arith
@@ -40,24 +43,32 @@ left_of setup hart u count = line_left setup (slice_get (script_of setup hart) c
 
 -- all that is left, where no collision is kept
 abbrev pub all_left : WorldData → ℕ
-all_left w = sum_by (hart_left w) (range_with_len 0 w.setup.harts) + fences_left w + attacker_left w
+all_left w = sum_by (hart_left w) (range_with_len 0 w.setup.harts) + fences_left w + attacker_left w + breaks_of w.setup.harts w.enclaves
 
 pub remaining_is : (w : WorldData) → w.collision ≡ None → remaining w ≡ all_left w
-unfolding remaining
+unfolding remaining breaks_of
 remaining_is w none = ap (λ o. if is_some o then 0 else all_left w) none
 
 pub none_left : (w : WorldData) (c : CollisionData) → w.collision ≡ Some c → remaining w ≡ 0
-unfolding remaining
+unfolding remaining breaks_of
 none_left w c kept = ap (λ o. if is_some o then 0 else all_left w) kept
+
+-- what the fences and the breaks come to
+abbrev pub besides : ℕ → WorldData → ℕ
+besides harts v = needs_left harts v.fences + breaks_of harts v.enclaves
+
+-- the breaks that may still be made cost no more
+abbrev pub SharesNoMore : WorldData → WorldData → Type 0
+SharesNoMore w v = breaks_of w.setup.harts v.enclaves ≤ breaks_of w.setup.harts w.enclaves
 
 module _ (digest_of : List ℕ → List ℕ) (w : WorldData) (k : Kept digest_of w) (none : w.collision ≡ None) (hart : ℕ) (below : hart < w.setup.harts) where
   not_attacker : w.setup.harts ≢ hart
   not_attacker same = let h : w.setup.harts ≡ hart = same in omega arith
 
-  -- an event that changes how far this hart is and what the fences need, and leaves less of both together
+  -- an event that changes how far this hart is, what the fences need and which pages are shared, and leaves less of all together
   module _ (v : WorldData) (setup : v.setup ≡ w.setup) (free : v.collision ≡ None) (u : Under) (count : ℕ)
       (under : ChangedAt Idle w.under v.under hart u) (answered : ChangedAt 0 w.answered v.answered hart count)
-      (falls : left_of w.setup hart u count + needs_left w.setup.harts v.fences < hart_left w hart + fences_left w) where
+      (falls : left_of w.setup hart u count + besides w.setup.harts v < hart_left w hart + besides w.setup.harts w) where
     now_left : (h : ℕ) → hart_left v h ≡ left_of w.setup h (under_at v.under h) (answered_at v.answered h)
     now_left h = ap (λ (p : SetupParts). left_of p h (under_at v.under h) (answered_at v.answered h)) setup
 
@@ -83,7 +94,8 @@ module _ (digest_of : List ℕ → List ℕ) (w : WorldData) (k : Kept digest_of
         let fences : fences_left v ≡ needs_left w.setup.harts v.fences = ap (λ (p : SetupParts). needs_left p.harts v.fences) setup in
         let own : hart_left v hart ≡ left_of w.setup hart u count = own_left in
         let attackers : attacker_left v ≡ attacker_left w = attackers_left in
-        let less : left_of w.setup hart u count + needs_left w.setup.harts v.fences < hart_left w hart + fences_left w = falls in
+        let breaks : breaks_of v.setup.harts v.enclaves ≡ breaks_of w.setup.harts v.enclaves = ap (λ (p : SetupParts). breaks_of p.harts v.enclaves) setup in
+        let less : left_of w.setup hart u count + besides w.setup.harts v < hart_left w hart + besides w.setup.harts w = falls in
         omega arith
 
   pub hart_there : hart < length w.under
@@ -99,9 +111,10 @@ module _ (digest_of : List ℕ → List ℕ) (w : WorldData) (k : Kept digest_of
     left_is : hart_left w hart ≡ line_left w.setup (Some line) under + later
     left_is = ap (λ l. line_left w.setup l (under_at w.under hart) + later) here ∙ ap (λ x. line_left w.setup (Some line) x + later) so_far
 
-    -- the line is answered, and the fences need less than it had left besides what they needed
-    pub answered_by : (v : WorldData) → v.setup ≡ w.setup → v.collision ≡ None → v.under ≡ slice_set w.under hart Idle → v.answered ≡ slice_set w.answered hart (answered_at w.answered hart + 1)
-        → needs_left w.setup.harts v.fences < line_left w.setup (Some line) under + fences_left w → remaining v < remaining w
+    -- the line is answered, and fences and breaks come to less than it had left besides what they came to
+    pub answered_by : (v : WorldData) → v.setup ≡ w.setup → v.collision ≡ None → v.under ≡ slice_set w.under hart Idle
+        → v.answered ≡ slice_set w.answered hart (answered_at w.answered hart + 1)
+        → besides w.setup.harts v < line_left w.setup (Some line) under + besides w.setup.harts w → remaining v < remaining w
     answered_by v setup free under_is answered_is less =
         falls_to v setup free Idle (answered_at w.answered hart + 1)
         (subst (λ xs. ChangedAt Idle w.under xs hart Idle) (sym under_is) (changed_set Idle w.under hart Idle hart_there))
@@ -113,9 +126,9 @@ module _ (digest_of : List ℕ → List ℕ) (w : WorldData) (k : Kept digest_of
         let l : hart_left w hart ≡ line_left w.setup (Some line) under + later = left_is in
         omega arith)
 
-    -- the line begins, or goes on, and less is left of it and of the fences together
+    -- the line begins, or goes on, and less is left of it, of the fences and of the breaks together
     pub goes_by : (v : WorldData) (u : Under) → v.setup ≡ w.setup → v.collision ≡ None → v.under ≡ slice_set w.under hart u → v.answered ≡ w.answered
-        → line_left w.setup (Some line) u + needs_left w.setup.harts v.fences < line_left w.setup (Some line) under + fences_left w → remaining v < remaining w
+        → line_left w.setup (Some line) u + besides w.setup.harts v < line_left w.setup (Some line) under + besides w.setup.harts w → remaining v < remaining w
     goes_by v u setup free under_is answered_is less =
         falls_to v setup free u (answered_at w.answered hart)
         (subst (λ xs. ChangedAt Idle w.under xs hart u) (sym under_is) (changed_set Idle w.under hart u hart_there))
@@ -124,16 +137,18 @@ module _ (digest_of : List ℕ → List ℕ) (w : WorldData) (k : Kept digest_of
         let l : hart_left w hart ≡ line_left w.setup (Some line) under + later = left_is in
         omega arith)
 
-    -- with the fences as they were
-    pub goes_less : (v : WorldData) (u : Under) → v.setup ≡ w.setup → v.collision ≡ None → v.fences ≡ w.fences → v.under ≡ slice_set w.under hart u → v.answered ≡ w.answered
-        → line_left w.setup (Some line) u < line_left w.setup (Some line) under → remaining v < remaining w
-    goes_less v u setup free fences under_is answered_is less =
+    -- with the fences as they were, and no more pages shared
+    pub goes_less : (v : WorldData) (u : Under) → v.setup ≡ w.setup → v.collision ≡ None → v.fences ≡ w.fences → SharesNoMore w v
+        → v.under ≡ slice_set w.under hart u → v.answered ≡ w.answered → line_left w.setup (Some line) u < line_left w.setup (Some line) under → remaining v < remaining w
+    goes_less v u setup free fences shares under_is answered_is less =
+        let fewer : breaks_of w.setup.harts v.enclaves ≤ breaks_of w.setup.harts w.enclaves = shares in
         goes_by v u setup free under_is answered_is (let same : needs_left w.setup.harts v.fences ≡ fences_left w = ap (needs_left w.setup.harts) fences in omega arith)
 
     module _ (some : 0 < line_left w.setup (Some line) under) where
-      pub answered_less : (v : WorldData) → v.setup ≡ w.setup → v.collision ≡ None → v.fences ≡ w.fences → v.under ≡ slice_set w.under hart Idle
-          → v.answered ≡ slice_set w.answered hart (answered_at w.answered hart + 1) → remaining v < remaining w
-      answered_less v setup free fences under_is answered_is =
+      pub answered_less : (v : WorldData) → v.setup ≡ w.setup → v.collision ≡ None → v.fences ≡ w.fences → SharesNoMore w v
+          → v.under ≡ slice_set w.under hart Idle → v.answered ≡ slice_set w.answered hart (answered_at w.answered hart + 1) → remaining v < remaining w
+      answered_less v setup free fences shares under_is answered_is =
+          let fewer : breaks_of w.setup.harts v.enclaves ≤ breaks_of w.setup.harts w.enclaves = shares in
           answered_by v setup free under_is answered_is (let same : needs_left w.setup.harts v.fences ≡ fences_left w = ap (needs_left w.setup.harts) fences in omega arith)
 
       -- a collision is kept, and nothing is left

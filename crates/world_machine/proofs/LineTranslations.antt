@@ -1,4 +1,4 @@
--- What the translations say of a hart's line: what it takes away or gives back, and where its walk stands after an event of another hart.
+-- What the translations say of a hart's line: what it takes away, which fence it posted, and where its walk stands after an event of another hart.
 use Rattle.std.proofs.Common.{◌≡◌, ℕ, ◌+◌, Bool, true, false, List, [], Option, Some, None, option_map, refl, ap, sym, ◌∙◌, subst}
 use Rattle.pl_base.specs.Address.{vpn_of}
 use Rattle.pl_base.specs.declared.access.Kind.{Kind}
@@ -20,12 +20,12 @@ use Rattle.mon_host.specs.Laws.{mirror_words}
 use Rattle.mon_tables.specs.Space.{Mapping}
 use Rattle.mon_tables.specs.Tables.{root_of}
 use Rattle.pl_history.specs.declared.line.Line.{Line}
-use Rattle.pl_history.specs.declared.line.Line.TheVariants.{Load, Store, Unmap, Create, Run, Resume, Destroy}
+use Rattle.pl_history.specs.declared.line.Line.TheVariants.{Load, Store, Unmap, Create, Shadow, Fork, Run, Resume, Destroy}
 use Rattle.pl_history.specs.declared.setup.SetupParts.{SetupParts}
 use Rattle.pl_history.specs.Monitor.{Number}
 use Rattle.world_machine.specs.declared.under.Under.{Under}
-use Rattle.world_machine.specs.declared.under.Under.TheVariants.{Idle, Seeking, Removing, Destroying, Putting, Running}
-use Rattle.world_machine.specs.FencesStand.{GivingStands, IsOfHost, RemovalStands}
+use Rattle.world_machine.specs.declared.under.Under.TheVariants.{Idle, Seeking, Removing, Destroying, Putting, Running, Breaking}
+use Rattle.world_machine.specs.FencesStand.{NumberFenceStands, IsOfHost, RemovalStands}
 use Rattle.world_machine.specs.LinesUnderWay.{IsRunning, LineUnderWay, access_of, number_under_way}
 use Rattle.world_machine.specs.RecordsAgree.{LiveAgrees, RecordsAgree, is_begun}
 use Rattle.world_machine.specs.Translating.{host_view, number_view}
@@ -33,10 +33,11 @@ use Rattle.world_machine.specs.TranslationsAgree.{WalkStands, Walking, WalkingSt
 
 -- ---- what a line takes away or gives back
 
--- a line that is so far waits for no acknowledgement: it is no begun `unmap` or `destroy`
+-- a line that is so far waits for no acknowledgement: it is no begun `unmap` or `destroy`, and broke no page
 abbrev pub isnt_waiting : Under → Bool
 isnt_waiting (Removing page) = false
 isnt_waiting Destroying = false
+isnt_waiting (Breaking count) = false
 isnt_waiting under = true
 
 -- a line that hasn't begun doesn't wait
@@ -55,12 +56,16 @@ removes_none (Some (Unmap va)) (Removing page) removed is none = (let clash : fa
 removes_none line under removed is none = none
 
 -- and its fence is none, or of the host's space
-pub none_given : (line : Option Line) (under : Under) (fence : Option Fence) → isnt_waiting under ≡ true → GivingStands line under fence → IsOfHost fence
+pub none_given : (line : Option Line) (under : Under) (fence : Option Fence) → isnt_waiting under ≡ true → NumberFenceStands line under fence → IsOfHost fence
 none_given (Some (Destroy e)) Destroying fence is k = (let clash : false ≡ true = is in absurd (let h : ⊥ = cc in h))
+none_given (Some (Run e budget)) (Breaking count) fence is k = (let clash : false ≡ true = is in absurd (let h : ⊥ = cc in h))
+none_given (Some (Resume e budget)) (Breaking count) fence is k = (let clash : false ≡ true = is in absurd (let h : ⊥ = cc in h))
 none_given line under fence is k = k
 
-pub gives_none : (line : Option Line) (under : Under) (fence : Option Fence) → isnt_waiting under ≡ true → IsOfHost fence → GivingStands line under fence
+pub gives_none : (line : Option Line) (under : Under) (fence : Option Fence) → isnt_waiting under ≡ true → IsOfHost fence → NumberFenceStands line under fence
 gives_none (Some (Destroy e)) Destroying fence is of_host = (let clash : false ≡ true = is in absurd (let h : ⊥ = cc in h))
+gives_none (Some (Run e budget)) (Breaking count) fence is of_host = (let clash : false ≡ true = is in absurd (let h : ⊥ = cc in h))
+gives_none (Some (Resume e budget)) (Breaking count) fence is of_host = (let clash : false ≡ true = is in absurd (let h : ⊥ = cc in h))
 gives_none line under fence is of_host = of_host
 
 -- ---- walks
@@ -128,6 +133,10 @@ module _ (tables : ℕ) (ctl ctl' : CtlData) (Fresh Fresh' : TlbEntry → Type 0
     line_walks hart (Some (Store va word)) (Seeking walk) lines same k = walk_stays (host_view tables) va walk host k
     line_walks hart (Some (Unmap va)) (Removing page) lines same k = tt
     line_walks hart (Some (Create e image pages)) (Putting done) lines same k = tt
+    line_walks hart (Some (Shadow e image pages)) (Putting done) lines same k = tt
+    line_walks hart (Some (Fork shadow e pages)) (Putting done) lines same k = tt
+    line_walks hart (Some (Run e budget)) (Breaking count) lines same k = tt
+    line_walks hart (Some (Resume e budget)) (Breaking count) lines same k = tt
     line_walks hart (Some (Run e budget)) (Running micro count) lines same k = running_stays hart e.0 budget count micro lines (same e.0 refl) k
     line_walks hart (Some (Resume e budget)) (Running micro count) lines same k = running_stays hart e.0 budget count micro lines (same e.0 refl) k
     line_walks hart (Some (Destroy e)) Destroying lines same k = tt

@@ -1,9 +1,10 @@
 -- An enclave that runs is its image run alone: from the record to the state and back, and through each instruction that retires.
-use Rattle.std.proofs.Common.{◌≡◌, ℕ, ◌+◌, ◌%◌, Bool, true, List, [], Some, None, slice_get, unwrap_or, refl, ap, sym, ◌∙◌, subst}
+use Rattle.std.proofs.Common.{◌≡◌, ℕ, ◌+◌, ◌%◌, ◌||◌, Bool, true, List, [], Some, None, slice_get, unwrap_or, refl, ap, sym, ◌∙◌, subst}
 use Rattle.pl_base.specs.declared.access.Kind.TheVariants as kind
 use Rattle.pl_base.specs.declared.state.State.{State}
 use Rattle.pl_base.specs.declared.state.State.TheVariants as state_is
 use Rattle.pl_base.specs.Pages.{first_twice}
+use Rattle.pl_base.specs.States.{is_sealed}
 use Rattle.mem_geom.specs.Parts.{page_bytes}
 use Rattle.mem_ctl.specs.Writes.{word_at}
 use Rattle.mon_enclave.specs.declared.enclave.Enclave.{Enclave}
@@ -20,13 +21,13 @@ use Rattle.rv_alone.proofs.AloneLemmas.{alone_more}
 use Rattle.pl_history.specs.declared.setup.SetupParts.{SetupParts}
 use Rattle.pl_history.specs.Monitor.{Number, flat_image}
 use Rattle.world_machine.specs.ByteBounds.{AreImageBytes}
-use Rattle.world_machine.specs.EnclavesAgree.{EnclaveStands, StatusStands}
+use Rattle.world_machine.specs.EnclavesAgree.{EnclaveStands, StatusStands, is_made}
 use Rattle.world_machine.specs.Making.{image_of}
-use Rattle.world_machine.specs.Pages.{flat_pages, located, numbers_of, part_of_word, word_offset}
+use Rattle.world_machine.specs.Pages.{flat_pages, numbers_of, part_of_word, word_offset}
 use Rattle.world_machine.specs.Running.{retired_with}
 use Rattle.world_machine.proofs.Alignment.{word_access, word_aligned}
 use Rattle.world_machine.proofs.ByteBounds.{PagesAreBytes, alone_bytes, fetched_small, image_bytes}
-use Rattle.world_machine.proofs.FlatPages.{StoresInto}
+use Rattle.world_machine.proofs.FlatPages.{StoresInto, located}
 use Rattle.world_machine.proofs.Instructions.{IsFetched, Retires, exit_ends, flat_of, load_retires, set_retires, store_retires, word_fetched}
 use Rattle.world_machine.proofs.WordParts.{stays_in_word}
 
@@ -49,13 +50,17 @@ flat_is bytes_of image r now context received out pages status =
     let words : now.out ≡ r.out = sym out in
     λ i. record { regs = regs i; pc = pc i; pages = pages i; received = got i; out = words i; status = status i }
 
+-- a live number is made
+pub live_made : (n : Number) → n.live ≡ true → is_made n ≡ true
+live_made n live = ap (λ b. b || is_sealed n.state) live
+
 pub live_of : (setup : SetupParts) (memory : List ℕ) (owners : List Owner) (e : ℕ) (r : Enclave) (n : Number) (s : EnclaveStands setup (page_bytes memory) owners e r n) → AreImageBytes setup.images
-    → n.live ≡ true → s.now.status ≡ on → IsLive s.image memory r
+    → n.live ≡ true → s.state.now.status ≡ on → IsLive s.image memory r
 live_of setup memory owners e r n s bytes live status = record {
-  alone_is = s.alone_is ∙ ap Some (flat_is (page_bytes memory) s.image.pages r s.now s.context s.received s.out (s.pages live) status);
+  alone_is = s.state.alone_is ∙ ap Some (flat_is (page_bytes memory) s.image.pages r s.state.now s.state.context s.state.received s.state.out (s.state.pages (live_made n live)) status);
   bytes = image_bytes setup.images r.image s.image bytes s.image_is;
-  aligned = s.aligned;
-  apart = s.apart;
+  aligned = s.state.aligned;
+  apart = s.held.apart;
 }
 
 -- the status of an image whose record is on

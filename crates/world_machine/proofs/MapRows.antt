@@ -48,7 +48,7 @@ use Rattle.world_machine.specs.Worlds.{WorldData, answered_at, hart_line, tlb_at
 use Rattle.world_machine.proofs.Bounds.{script_fits}
 use Rattle.world_machine.proofs.Freshness.{added_used}
 use Rattle.world_machine.proofs.HostOutcomes.{HostLine, host_outcome_kept, left_kept, left_line, refused_kept}
-use Rattle.world_machine.proofs.HostOwners.{host_counted, is_host-host, mapped_more, remapped_agree, remapped_guards, remapped_pool, remapped_stays, with_map-is}
+use Rattle.world_machine.proofs.HostOwners.{host_counted, is_host-host, mapped_more, remapped_agree, remapped_guards, remapped_owner, remapped_pool, remapped_stays, with_map-is}
 use Rattle.world_machine.proofs.HostRefusals.{host_so, map_allows, map_may_fault, map_refused_early, map_refused_in}
 use Rattle.world_machine.proofs.HostRows.{HostFrame, host_row}
 use Rattle.world_machine.proofs.HostChanges.{HostChange, fresh_by, host_changed}
@@ -198,7 +198,7 @@ module _ (digest_of : List ℕ → List ℕ) (law : HasDigests digest_of) (room_
         pool = remapped_pool w.owners page (maps_of s page) (maps_of s page + 1) counted;
         guarded = λ p is. remapped_stays w.owners page (maps_of s page) (maps_of s page + 1) counted p owner_is.Guard (λ maps clash. cc) is;
         guards = remapped_guards w.owners page (maps_of s page) (maps_of s page + 1) counted;
-        owned = λ e p is. remapped_stays w.owners page (maps_of s page) (maps_of s page + 1) counted p (owner_is.Enclave (record { 0 = e })) (λ maps clash. cc) is;
+        owned = λ e p is. remapped_owner w.owners page (maps_of s page) (maps_of s page + 1) counted p ∙ is;
         owners_agree = remapped_agree w.owners page (maps_of s page) (maps_of s page + 1) counted s s' k.stands.owners (λ p. refl)
             (mapped_more s s' m refl refl page ∙ ap (λ b. maps_of s page + cond b 1 0) (eq-eqb page page refl))
             (λ p differs. mapped_more s s' m refl refl p ∙ ap (λ b. maps_of s p + cond b 1 0) (ne_eqb page p (λ same. differs (sym same))) ∙ (let zero : maps_of s p + 0 ≡ maps_of s p = omega arith in zero));
@@ -227,15 +227,17 @@ module _ (digest_of : List ℕ → List ℕ) (law : HasDigests digest_of) (room_
             (removes_none _ Idle (removals_by s.removals hart) refl line_is.no_removal);
         others = λ other differs. refl;
         used = λ other there differs. used other;
-        leaving = λ other there differs e leaving. leaving;
+        owed = λ other there differs e vpn owed. owed;
         giving = giving_stays digest_of w k hart _ _ (λ other differs. ap (slice_get (script_of w.setup other)) (moves.answered_change.others other differs)) moves.under_change.others
             (ap isnt_waiting so_far) (ap isnt_waiting moves.under_change.here);
-        own = All-weaker (IsFresh w.setup s w.fences hart) (IsFresh w.setup s' w.fences hart) (fresh_by w.setup s s' w.fences w.fences hart (λ e. refl) (used hart) (λ e leaving. leaving)) (tlb_at w.tlbs hart) (k.stands.translations.fresh.entries hart);
+        own = All-weaker (IsFresh w.setup (enclave_at w.enclaves) s w.fences hart) (IsFresh w.setup (enclave_at w.enclaves) s' w.fences hart)
+            (fresh_by w.setup (enclave_at w.enclaves) s s' w.fences w.fences hart (λ e. refl) (used hart) (λ e vpn owed. owed))
+            (tlb_at w.tlbs hart) (k.stands.translations.fresh.entries hart);
         lines = λ other differs. ap (slice_get (script_of w.setup other)) (moves.answered_change.others other differs);
         unders = moves.under_change.others;
-        own_walk = subst (λ u. WalkingStands ctl (IsFresh w.setup s' w.fences hart)
+        own_walk = subst (λ u. WalkingStands ctl (IsFresh w.setup (enclave_at w.enclaves) s' w.fences hart)
             (walking w.setup.tables (enclave_at w.enclaves) (line_after w (slice_set w.answered hart (answered_at w.answered hart + 1)) hart) u))
-            (sym moves.under_change.here) (idle_walks ctl (IsFresh w.setup s' w.fences hart) w.setup.tables (enclave_at w.enclaves) _);
+            (sym moves.under_change.here) (idle_walks ctl (IsFresh w.setup (enclave_at w.enclaves) s' w.fences hart) w.setup.tables (enclave_at w.enclaves) _);
       }
         where
           used : (other : ℕ) (x : Mapping) → MayUse s w.fences other x → MayUse s' w.fences other x

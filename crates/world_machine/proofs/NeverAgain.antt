@@ -6,11 +6,12 @@ use Rattle.pl_base.specs.declared.perms.Perms.{Perms}
 use Rattle.pl_base.specs.declared.place.Place.{Place}
 use Rattle.pl_base.specs.declared.refusal.No.{No}
 use Rattle.byteorder.specs.Endian.{little_bytes}
-use Rattle.mem_geom.specs.PathPlaces.{replaced_places, word_places}
+use Rattle.mem_geom.specs.Parts.{page_bytes}
+use Rattle.mem_geom.specs.PathPlaces.{page_places, replaced_places, word_places}
 use Rattle.mem_slots.specs.Slots.{is_mounted, slot_at}
 use Rattle.mem_tree.specs.Checks.{Checked, Holds as AllHold, Fault as BreaksAt, Collision as CollidesAt}
-use Rattle.mem_ctl.specs.Calls.{accessed, put_page_of, read_word_of, with_page_at, with_part, write_part_of, zone_check}
-use Rattle.mem_ctl.specs.Data.{After, Again, Collision, CtlData, Fault, Going, Outcome, Value, answer, go_on, if_holds}
+use Rattle.mem_ctl.specs.Calls.{accessed, get_page_of, put_page_of, read_word_of, with_page_at, with_part, write_part_of, zone_check}
+use Rattle.mem_ctl.specs.Data.{After, Again, Collision, CtlData, Fault, Going, Outcome, Value, and_then, answer, go_on, if_holds}
 use Rattle.mem_ctl.specs.Mounting.{asked, count_use, evicted, evicted_at, mounted_anew, mounted_for, mounted_last, position_of, root_check, taken}
 use Rattle.mem_ctl.specs.Writes.{word_at}
 use Rattle.mon_image.specs.declared.image.Image.{Image}
@@ -23,8 +24,10 @@ use Rattle.mon_host.specs.Unmapping.{page_of_leaf, unmap_begun, unmap_refusal}
 use Rattle.mon_life.specs.Pages.{PagePut, page_put_at}
 use Rattle.mon_life.specs.Putting.{create_put, put_at, steps_of}
 use Rattle.mon_owner.specs.declared.owners.Owner.{Owner}
+use Rattle.mon_shadow.specs.Breaking.{page_copied}
+use Rattle.mon_tables.specs.Tables.{number_slot}
 use Rattle.mon_tables.specs.Words.{leaf_word}
-use Rattle.pl_base.specs.declared.access.Mode.TheVariants.{Super}
+use Rattle.pl_base.specs.declared.access.Mode.TheVariants.{Super, User}
 
 abbrev pub NeverAgain : {A : Type 0} → Outcome A → Type 0
 NeverAgain (Value a) = Unit {0}
@@ -84,6 +87,10 @@ module _ (digest_of : List ℕ → List ℕ) where
   write_never page offset width word g = accessed_never {A = Unit {0}} page (word_places page (offset / 64)) (λ x. tt)
       (λ x. with_part digest_of (taken x) page (offset / 64) (offset % 64) (little_bytes width word) x) g
 
+  get_never : (page : ℕ) (g : Going) → NeverAgain (get_page_of digest_of page g).outcome
+  unfolding get_page_of
+  get_never page g = accessed_never page (page_places page) (λ x. page_bytes x.off_chip page) (λ x. x) g
+
   put_never : (page : ℕ) (bytes : List ℕ) (g : Going) → NeverAgain (put_page_of digest_of page bytes g).outcome
   unfolding put_page_of
   put_never page bytes g = accessed_never {A = Unit {0}} page (replaced_places page) (λ x. tt) (with_page_at digest_of page bytes) g
@@ -97,6 +104,16 @@ module _ (digest_of : List ℕ → List ℕ) where
   unfolding create_put
   step_never tables e image shadow done enclaves g =
       put_at_never (page_put_at tables e image (enclave_at enclaves e).pages done) (done + 1 == steps_of shadow (length image.pages)) g
+
+  -- a page is read, put into another one, and a leaf leads there
+  pub copied_never : (tables e index shared spare : ℕ) (perms : Perms) (g : Going) → NeverAgain (page_copied digest_of tables e index shared spare perms g).outcome
+  unfolding page_copied
+  copied_never tables e index shared spare perms g =
+      let leaf : Unit {0} → Going → After (Unit {0}) = λ done k. write_part_of digest_of (number_slot tables e index).0 (number_slot tables e index).1 8 (leaf_word spare perms User) k in
+      then_never {A = List ℕ} {B = Unit {0}} (get_page_of digest_of shared g).outcome (get_page_of digest_of shared g).after (λ bytes h. and_then (put_page_of digest_of spare bytes h) leaf)
+      (get_never shared g)
+      (λ bytes h. then_never {A = Unit {0}} {B = Unit {0}} (put_page_of digest_of spare bytes h).outcome (put_page_of digest_of spare bytes h).after leaf
+      (put_never spare bytes h) (λ done k. write_never (number_slot tables e index).0 (number_slot tables e index).1 8 (leaf_word spare perms User) k))
 
   -- ---- the host's leaves
 

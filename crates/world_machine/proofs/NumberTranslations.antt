@@ -1,4 +1,4 @@
--- The translations of a live enclave number in a kept world: an access that is translated goes to the page that is located, and a walk that
+-- The translations of a live enclave number in a kept world: an access that is translated goes to the page that it reaches, and a walk that
 -- learns from the words of the number's tables stands.
 use Rattle.std.proofs.Common.{◌≡◌, ℕ, ◌+◌, ◌*◌, ◌%◌, ◌<◌, ◌≤◌, Bool, true, false, cond, List, Option, Some, None, sym, ap, ◌∙◌, subst, arith, inl, inr}
 use Rattle.std.specs.List.{All}
@@ -35,21 +35,21 @@ use Rattle.mon_tables.proofs.NumberWalks.{number_tables}
 use Rattle.pl_history.specs.Monitor.{Monitor}
 use Rattle.pl_history.specs.Rules.{pages_of}
 use Rattle.world_machine.specs.EnclavesAgree.{EnclaveStands}
-use Rattle.world_machine.specs.FencesStand.{IsLeaving}
+use Rattle.world_machine.specs.FencesStand.{IsOwed}
 use Rattle.world_machine.specs.Making.{image_of}
-use Rattle.world_machine.specs.Pages.{located, numbers_of}
+use Rattle.world_machine.specs.Pages.{reached}
 use Rattle.world_machine.specs.RecordsAgree.{RecordAgrees}
 use Rattle.world_machine.specs.Standing.{Kept, state_of, written_page}
 use Rattle.world_machine.specs.Translating.{number_view, page_at}
 use Rattle.world_machine.specs.TranslationsAgree.{IsFresh, IsHostEntry, IsNumberEntry, MayUseNumber, WalkStands, space_of}
 use Rattle.world_machine.specs.Worlds.{WorldData, tlb_at}
-use Rattle.world_machine.proofs.Leaving.{not_leaving}
 use Rattle.world_machine.proofs.MadeTables.{number_making}
 use Rattle.world_machine.proofs.MappingTranslations.{mapping_vpn, none_granted, page_granted, through}
-use Rattle.world_machine.proofs.NumberSpaces.{image_is, located_mapped, space_is, unlocated}
+use Rattle.world_machine.proofs.NumberSpaces.{image_is, reached_mapped, unreached}
 use Rattle.world_machine.proofs.TranslationFrames.{few_numbers, few_tables, live_in_use, live_there}
 use Rattle.world_machine.proofs.TablePages.{IsWordOf, number_table_page, word_stands}
 use Rattle.world_machine.proofs.WalkLemmas.{Forbids, LearnsSo, Reaches, asks_where, forbidden_by, learns_so, reached_by, tlb_stands, translation_of}
+use Rattle.world_machine.specs.Accesses.{HasAcknowledged}
 
 module _ (digest_of : List ℕ → List ℕ) (w : WorldData) (k : Kept digest_of w) (e : ℕ) (live : ((state_of w).number e).live ≡ true) where
   abbrev s : Monitor
@@ -74,10 +74,10 @@ module _ (digest_of : List ℕ → List ℕ) (w : WorldData) (k : Kept digest_of
   image = image_of w.setup r.image
 
   abbrev space : List Mapping
-  space = space_of w.setup s e
+  space = space_of w.setup r
 
   same_image : image ≡ stands.image
-  same_image = image_is w.setup (written_page w) w.owners e r s.number agrees stands
+  same_image = image_is w.setup (written_page w) w.owners e r (s.number e) stands
 
   -- ---- the tables walk to the space
 
@@ -95,24 +95,22 @@ module _ (digest_of : List ℕ → List ℕ) (w : WorldData) (k : Kept digest_of
 
   -- its mappings lead to pages that there are, with permissions that a page may have
   pub number_mappable : All IsMappable space
-  number_mappable =
-      subst (All IsMappable) (sym (space_is w.setup (written_page w) w.owners e r s.number agrees stands live))
-      (leaves_mappable tables w.setup.enclaves e (pages_of w.setup.zones) image r.pages making)
+  number_mappable = leaves_mappable tables w.setup.enclaves e (pages_of w.setup.zones) image r.pages making
 
   pub walks_to : WalksTo words (root_of tables (e + 1)) User space
   walks_to =
-      subst (WalksTo words (root_of tables (e + 1)) User) (sym (space_is w.setup (written_page w) w.owners e r s.number agrees stands live))
-      (number_tables tables e words leaves (few_tables digest_of w k) small (few_leaves tables w.setup.enclaves e (pages_of w.setup.zones) image r.pages making)
-      (leaves_mappable tables w.setup.enclaves e (pages_of w.setup.zones) image r.pages making) (k.stands.translations.tables.numbers e live))
+      number_tables tables e words leaves (few_tables digest_of w k) small (few_leaves tables w.setup.enclaves e (pages_of w.setup.zones) image r.pages making)
+      (leaves_mappable tables w.setup.enclaves e (pages_of w.setup.zones) image r.pages making) (k.stands.translations.tables.numbers e live)
 
   -- ---- translations of a hart
 
-  module _ (hart : ℕ) (va : Va) (kind : Kind) where
+  -- one that has acknowledged the fences of the number's space
+  module _ (hart : ℕ) (acknowledged : HasAcknowledged w hart e) (va : Va) (kind : Kind) where
     abbrev view : View
     view = number_view tables e
 
     abbrev Fresh : TlbEntry → Type 0
-    Fresh = IsFresh w.setup s w.fences hart
+    Fresh = IsFresh w.setup (enclave_at w.enclaves) s w.fences hart
 
     -- a translation that stands is that of a mapping of the space
     pub record IsMapped (ppn : Ppn) (perms : Perms) : Type 0 where
@@ -124,21 +122,21 @@ module _ (digest_of : List ℕ → List ℕ) (w : WorldData) (k : Kept digest_of
     not_host : (ppn : Ppn) (perms : Perms) → IsHostEntry s w.fences hart (translation_of view va ppn perms) → ⊥
     not_host ppn perms is = (let h : e + 1 ≡ 0 = ap (λ (x : TlbEntry). x.space.0) is.is in omega (arith, h))
 
-    of_number : (ppn : Ppn) (perms : Perms) → IsNumberEntry w.setup s w.fences hart (translation_of view va ppn perms) → IsMapped ppn perms
+    of_number : (ppn : Ppn) (perms : Perms) → IsNumberEntry w.setup (enclave_at w.enclaves) s w.fences hart (translation_of view va ppn perms) → IsMapped ppn perms
     of_number ppn perms is =
         let number_is : is.e ≡ e = (let h : e + 1 ≡ is.e + 1 = ap (λ (x : TlbEntry). x.space.0) is.is in omega (arith, h)) in
         let vpn_is : (vpn_of va).0 ≡ is.mapping.vpn = ap (λ (x : TlbEntry). x.vpn.0) is.is in
         record {
           mapping = is.mapping;
-          there = ap (mapping_at space) vpn_is ∙ ap (λ f. mapping_at (space_of w.setup s f) is.mapping.vpn) (sym number_is) ∙ mapped number_is is.fresh;
+          there = ap (mapping_at space) vpn_is ∙ ap (λ f. mapping_at (space_of w.setup (enclave_at w.enclaves f)) is.mapping.vpn) (sym number_is) ∙ mapped number_is is.fresh;
           page = ap (λ (x : TlbEntry). x.ppn.0) is.is;
           perms_are = ap (λ (x : TlbEntry). x.perms) is.is;
         }
       where
-        -- the number is live, so it isn't leaving
-        mapped : is.e ≡ e → MayUseNumber w.setup s w.fences hart is.e is.mapping → mapping_at (space_of w.setup s is.e) is.mapping.vpn ≡ Some is.mapping
+        -- no fence is owed
+        mapped : is.e ≡ e → MayUseNumber w.setup (enclave_at w.enclaves) s w.fences hart is.e is.mapping → mapping_at (space_of w.setup (enclave_at w.enclaves is.e)) is.mapping.vpn ≡ Some is.mapping
         mapped same (inl (lives, at)) = at
-        mapped same (inr leaving) = absurd (not_leaving digest_of w k hart e live (subst (IsLeaving w.fences hart) same leaving))
+        mapped same (inr owed) = absurd (acknowledged is.mapping.vpn (subst (λ f. IsOwed w.fences hart f is.mapping.vpn) same owed))
 
     pub fresh_mapped : (ppn : Ppn) (perms : Perms) → Fresh (translation_of view va ppn perms) → IsMapped ppn perms
     fresh_mapped ppn perms (inl of_host) = absurd (not_host ppn perms of_host)
@@ -160,20 +158,17 @@ module _ (digest_of : List ℕ → List ℕ) (w : WorldData) (k : Kept digest_of
           fresh = inl (live, ap (mapping_at space) vpn_is ∙ t.1);
         })
 
-    -- ---- the page that is located
+    -- ---- the page that is reached
 
     abbrev here : Option ℕ
-    here = located kind image.pages (numbers_of r.pages) va.0
+    here = reached kind image.pages r.pages va.0
 
     here_is : is_canonical va.0 ≡ true → here ≡ page_granted kind (mapping_at space (vpn_of va).0)
     here_is canonical =
-        ap (λ (i : Image). located kind i.pages (numbers_of r.pages) va.0) same_image
-        ∙ located_mapped w.setup (written_page w) w.owners e r s.number agrees stands kind va k.sizes.rules live canonical
+        ap (λ (i : Image). reached kind i.pages r.pages va.0) same_image ∙ reached_mapped w.setup (written_page w) w.owners e r (s.number e) stands kind va k.sizes.rules canonical
 
     far_none : is_canonical va.0 ≡ false → here ≡ None
-    far_none far =
-        ap (λ (i : Image). located kind i.pages (numbers_of r.pages) va.0) same_image
-        ∙ unlocated w.setup (written_page w) w.owners e r s.number agrees stands kind va.0 k.sizes.rules far
+    far_none far = ap (λ (i : Image). reached kind i.pages r.pages va.0) same_image ∙ unreached w.setup (written_page w) w.owners e r (s.number e) stands kind va.0 k.sizes.rules far
 
     granted_by : (m : Mapping) (g : Bool) → grants m.perms kind ≡ g → page_granted kind (Some m) ≡ cond g (Some m.page) None
     granted_by m g is = ap (λ b. cond b (Some m.page) None) is
@@ -210,15 +205,15 @@ module _ (digest_of : List ℕ → List ℕ) (w : WorldData) (k : Kept digest_of
       abbrev entries : List TlbEntry
       entries = tlb_at w.tlbs hart
 
-      pub located_at : (pa : Pa) → sought walk va kind entries view ≡ At pa → here ≡ Some (page_at pa)
-      located_at pa asks = reached_page pa (reached_by w.ctl Fresh view va kind walk entries walk_stands (k.stands.translations.fresh.entries hart) pa asks)
+      pub reached_at : (pa : Pa) → sought walk va kind entries view ≡ At pa → here ≡ Some (page_at pa)
+      reached_at pa asks = reached_page pa (reached_by w.ctl Fresh view va kind walk entries walk_stands (k.stands.translations.fresh.entries hart) pa asks)
 
       -- off-chip memory begins below it
       pub reached_above : (pa : Pa) → sought walk va kind entries view ≡ At pa → 0x80000000 ≤ pa.0
       reached_above pa asks = above_page pa (reached_by w.ctl Fresh view va kind walk entries walk_stands (k.stands.translations.fresh.entries hart) pa asks)
 
-      pub located_none : sought walk va kind entries view ≡ PageFault → here ≡ None
-      located_none asks = elim (forbidden_by w.ctl Fresh view va kind walk entries walk_stands (k.stands.translations.fresh.entries hart) asks) [
+      pub reached_none : sought walk va kind entries view ≡ PageFault → here ≡ None
+      reached_none asks = elim (forbidden_by w.ctl Fresh view va kind walk entries walk_stands (k.stands.translations.fresh.entries hart) asks) [
         | inl far ↦ far_none far
         | inr forbids ↦ forbidden_none forbids
       ]

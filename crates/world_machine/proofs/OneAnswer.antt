@@ -20,7 +20,7 @@ use Rattle.world_machine.specs.declared.turned.Turned.{Turned}
 use Rattle.world_machine.specs.declared.turned.Turned.TheVariants as turned
 use Rattle.world_machine.specs.declared.turned.Wait.TheVariants as wait
 use Rattle.world_machine.specs.declared.under.Under.{Under}
-use Rattle.world_machine.specs.declared.under.Under.TheVariants.{Idle, Seeking, Removing, Destroying, Putting, Running}
+use Rattle.world_machine.specs.declared.under.Under.TheVariants.{Idle, Seeking, Removing, Destroying, Putting, Running, Breaking}
 use Rattle.world_machine.specs.Acknowledging.{acknowledged, owed}
 use Rattle.world_machine.specs.Adding.{AddsAtMostOne, AnswersAtMostOne, actor_number, moves_after}
 use Rattle.world_machine.specs.Answering.{answers}
@@ -28,9 +28,10 @@ use Rattle.world_machine.specs.Attacking.{attacks}
 use Rattle.world_machine.specs.GivingBack.{ends_destroy}
 use Rattle.world_machine.specs.HostAccessing.{loads, stores}
 use Rattle.world_machine.specs.HostMapping.{ends_unmap, lacked_by}
+use Rattle.world_machine.specs.Running.{restarts}
 use Rattle.world_machine.specs.Steps.{Step, StepOf, Turn, ack_turn, actor_turn, attacker_turn, due, hart_turn, moves, rests, stepped, turn_of, turned_by, waiting_turn, world_after}
 use Rattle.world_machine.specs.Worlds.{Event, WorldData, answered_at, attacker_line, hart_line, under_at}
-use Rattle.world_machine.proofs.HartAnswers.{Adds, access_adds, acknowledged_adds, answer_adds, begin_adds, begins_access_adds, begins_destroy_adds, begins_unmap_adds, changes_adds, create_adds, maps_adds, put_adds, run_adds}
+use Rattle.world_machine.proofs.HartAnswers.{Adds, access_adds, acknowledged_adds, answer_adds, begin_adds, begins_access_adds, begins_destroy_adds, begins_unmap_adds, changes_adds, create_adds, drop_adds, fork_adds, grant_adds, maps_adds, put_adds, restart_adds, run_adds}
 
 -- what a turn adds before a move is counted, where it moves
 abbrev TurnAdds : WorldData → ℕ → Turn → Type 0
@@ -64,12 +65,20 @@ module _ (digest_of : List ℕ → List ℕ) (w : WorldData) where
   due_adds hart positions (line_is.Destroy e) Idle = begins_destroy_adds digest_of w hart e
   due_adds hart positions (line_is.Destroy e) Destroying =
       ends_adds w hart (ends_destroy w hart e) (lacked_by w hart) (answer_adds digest_of w hart answer_is.Ok (ends_destroy w hart e) refl refl)
-  due_adds hart positions (line_is.Create e image pages) Idle = create_adds digest_of w hart e.0 image pages
-  due_adds hart positions (line_is.Create e image pages) (Putting done) = put_adds digest_of w hart positions e.0 image done
+  due_adds hart positions (line_is.Drop shadow) Idle = drop_adds digest_of w hart shadow.0
+  due_adds hart positions (line_is.Create e image pages) Idle = create_adds digest_of w hart e.0 image pages false
+  due_adds hart positions (line_is.Create e image pages) (Putting done) = put_adds digest_of w hart positions e.0 image false done
+  due_adds hart positions (line_is.Shadow e image pages) Idle = create_adds digest_of w hart e.0 image pages true
+  due_adds hart positions (line_is.Shadow e image pages) (Putting done) = put_adds digest_of w hart positions e.0 image true done
+  due_adds hart positions (line_is.Fork shadow e pages) Idle = fork_adds digest_of w hart shadow e.0 pages
+  due_adds hart positions (line_is.Fork shadow e pages) (Putting done) = put_adds digest_of w hart positions e.0 (enclave_at w.enclaves e.0).image false done
+  due_adds hart positions (line_is.Grant e page) Idle = grant_adds digest_of w hart e.0 page
   due_adds hart positions (line_is.Run e budget) Idle = begin_adds digest_of w hart e.0 true
   due_adds hart positions (line_is.Run e budget) (Running micro count) = run_adds digest_of w hart e.0 budget count (enclave_at w.enclaves e.0) positions micro
+  due_adds hart positions (line_is.Run e budget) (Breaking count) = ends_adds w hart (restarts w hart count) (lacked_by w hart) (restart_adds digest_of w hart count)
   due_adds hart positions (line_is.Resume e budget) Idle = begin_adds digest_of w hart e.0 false
   due_adds hart positions (line_is.Resume e budget) (Running micro count) = run_adds digest_of w hart e.0 budget count (enclave_at w.enclaves e.0) positions micro
+  due_adds hart positions (line_is.Resume e budget) (Breaking count) = ends_adds w hart (restarts w hart count) (lacked_by w hart) (restart_adds digest_of w hart count)
   due_adds hart positions (line_is.Send e word) Idle = changes_adds digest_of w hart (send_refusal (enclave_at w.enclaves e.0)) e.0 _ answer_is.Ok
   due_adds hart positions (line_is.Take e) Idle = changes_adds digest_of w hart (take_refusal (enclave_at w.enclaves e.0)) e.0 _ _
   due_adds hart positions (line_is.After actor count) Idle =

@@ -38,9 +38,10 @@ use Rattle.pl_history.specs.Rules.{guarded_of, is_within, pages_of}
 use Rattle.world_attack.proofs.RoomLemmas.{room_at_start}
 use Rattle.world_machine.specs.declared.under.Under.{Under}
 use Rattle.world_machine.specs.declared.under.Under.TheVariants.{Idle}
-use Rattle.world_machine.specs.FencesStand.{FenceStands, GivingStands, RemovalStands}
+use Rattle.world_machine.specs.FencesStand.{FenceStands, NumberFenceStands, RemovalStands}
 use Rattle.world_machine.specs.LinesUnderWay.{LineUnderWay, number_under_way}
 use Rattle.world_machine.specs.Reached.{CanRun, opening_world}
+use Rattle.world_machine.specs.PagesAgree.{PagesAre}
 use Rattle.world_machine.specs.RecordsAgree.{OwnersAgree, RecordAgrees, is_begun, owner_of}
 use Rattle.world_machine.specs.Sizes.{HasSizes}
 use Rattle.world_machine.specs.Standing.{Kept, Stands}
@@ -187,7 +188,6 @@ module _ (digest_of : List ℕ → List ℕ) (law : (m : List ℕ) → length (d
       let nothing : ℕ = 0 in
       record {
         rules = can.rules;
-        built = can.built;
         bytes = can.bytes;
         lines_fit = can.lines_fit;
         zones = refl;
@@ -213,7 +213,6 @@ module _ (digest_of : List ℕ → List ℕ) (law : (m : List ℕ) → length (d
     live = refl;
     hart = refl;
     image = refl;
-    pages = refl;
     given = refl;
     parent = refl;
     sent = refl;
@@ -273,12 +272,14 @@ module _ (digest_of : List ℕ → List ℕ) (law : (m : List ℕ) → length (d
           each = λ hart. subst (λ fence. FenceStands fence []) (sym (no_fence hart)) refl;
         };
         removals = λ hart. subst (λ u. RemovalStands (line hart) u []) (sym (is_idle hart)) (removes_none (line hart) Idle [] refl refl);
-        giving = λ hart. subst (λ fence. GivingStands (line hart) (under_at under hart) fence) (sym (no_fence hart))
+        giving = λ hart. subst (λ fence. NumberFenceStands (line hart) (under_at under hart) fence) (sym (no_fence hart))
             (gives_none (line hart) (under_at under hart) None (ap isnt_waiting (is_idle hart)) tt);
         fresh = record {
-          entries = λ hart. subst (All (IsFresh setup (opening setup) (replicate setup.harts None) hart)) (sym (no_entries hart)) (All-nil (IsFresh setup (opening setup) (replicate setup.harts None) hart));
-          walks = λ hart. subst (λ u. WalkingStands ctl (IsFresh setup (opening setup) (replicate setup.harts None) hart) (walking setup.tables (enclave_at records) (line hart) u)) (sym (is_idle hart))
-              (idle_walks ctl (IsFresh setup (opening setup) (replicate setup.harts None) hart) setup.tables (enclave_at records) (line hart));
+          entries = λ hart. subst (All (IsFresh setup (enclave_at records) (opening setup) (replicate setup.harts None) hart)) (sym (no_entries hart))
+              (All-nil (IsFresh setup (enclave_at records) (opening setup) (replicate setup.harts None) hart));
+          walks = λ hart. subst (λ u. WalkingStands ctl (IsFresh setup (enclave_at records) (opening setup) (replicate setup.harts None) hart)
+              (walking setup.tables (enclave_at records) (line hart) u)) (sym (is_idle hart))
+              (idle_walks ctl (IsFresh setup (enclave_at records) (opening setup) (replicate setup.harts None) hart) setup.tables (enclave_at records) (line hart));
         };
       }
 
@@ -288,12 +289,14 @@ module _ (digest_of : List ℕ → List ℕ) (law : (m : List ℕ) → length (d
     owners = owners_agree;
     records = λ e. subst (λ r. RecordAgrees r free_number) (sym (is_first e)) free_agrees;
     progress = λ actor i. record { answered = sym (first_of (setup.harts + 1) 0 actor) i; begun = is_begun (sym (is_idle actor) i) };
+    pages = λ e. subst (λ r. PagesAre setup (opening setup).number r free_number) (sym (is_first e))
+        (record { broken = []; ahead = false; so_far = refl; kinds = refl; spares = refl; few = omega arith });
     enclaves = λ e used. absurd (never_used e used);
     host = λ page is. host_zero page is;
     attacks = record {
       nodes = λ i past none. refl;
       guarded = λ page is k few none. refl;
-      live = λ page e here live k few none. refl;
+      made = λ page e here live k few none. refl;
       put = λ hart page here k few none. refl;
     };
     lines = λ hart. subst (LineUnderWay setup _ _ _ hart _) (sym (is_idle hart)) tt;

@@ -1,5 +1,5 @@
--- Who owns each page once listed pages, which were the host's and unmapped, are given to a number; and why they can't be taken.
-use Rattle.std.proofs.Common.{◌≡◌, ◌≢◌, ℕ, zero, suc, ◌<◌, eqb, Bool, true, false, ◌||◌, List, [], ◌∷◌, length, slice_get, Some, refl, sym, ap, ◌∙◌, arith, inl, inr}
+-- Who owns each page once listed pages, which were the host's and unmapped, are given to a number.
+use Rattle.std.proofs.Common.{◌≡◌, ◌≢◌, ℕ, zero, suc, ◌<◌, eqb, Bool, true, false, ◌||◌, if◌then◌else◌, List, [], ◌∷◌, length, slice_get, Some, option_map, refl, sym, ap, ◌∙◌, arith, inl, inr}
 use Rattle.std.specs.Prelude.{Contains}
 use Rattle.std.specs.List.{All}
 use Rattle.std.proofs.lemmas.Bool.{cases_Bool, eqb-true, eq-eqb}
@@ -7,9 +7,14 @@ use Rattle.std.proofs.lemmas.List.Elements.{All-contains}
 use Rattle.std.proofs.lemmas.Option.{slice_get_within}
 use Rattle.pl_base.specs.Pages.{is_among}
 use Rattle.mon_owner.specs.declared.owners.Owner.{Owner}
-use Rattle.mon_owner.specs.declared.owners.Owner.TheVariants.{Host}
+use Rattle.mon_owner.specs.declared.owners.Owner.TheVariants.{Guard, Host}
 use Rattle.mon_owner.specs.Owners.{given_to}
-use Rattle.mon_owner.proofs.OwnerLists.{given_listed}
+use Rattle.mon_owner.proofs.OwnerLists.{given_listed, given_other}
+use Rattle.pl_history.specs.Monitor.{Monitor, is_host, maps_of}
+use Rattle.pl_history.specs.Monitor as monitor
+use Rattle.world_machine.specs.BytesAgree.{HostBytesAgree}
+use Rattle.world_machine.specs.EnclavesAgree.{IsOwn}
+use Rattle.world_machine.specs.RecordsAgree.{OwnersAgree, owner_of}
 
 -- ---- listed pages
 
@@ -48,3 +53,50 @@ module _ (owners : List Owner) (to : Owner) (pages : List ℕ) where
       | inl among ↦ absurd (other (let h : Some now ≡ Some (Host 0) = sym is ∙ was_free page among in cc))
       | inr out ↦ out
     ]
+
+    -- nor is a page of a number, which stays
+    pub own_unlisted : (f page : ℕ) → IsOwn owners f page → is_among pages page ≡ false
+    own_unlisted f page own = elim (cases_Bool (is_among pages page)) [
+      | inl among ↦ (let clash : Some monitor.host ≡ Some (monitor.number f) = sym (ap (option_map owner_of) (was_free page among)) ∙ own in cc)
+      | inr out ↦ out
+    ]
+
+    pub own_stays : (f page : ℕ) → IsOwn owners f page → IsOwn (given_to owners pages to) f page
+    own_stays f page own = ap (option_map owner_of) (given_other owners to pages page (own_unlisted f page own)) ∙ own
+
+    pub guard_stays : (page : ℕ) → slice_get owners page ≡ Some Guard → slice_get (given_to owners pages to) page ≡ Some Guard
+    guard_stays page is = given_other owners to pages page (not_listed page Guard (λ same. cc) is) ∙ is
+
+    -- the monitor gives them to the number too
+    module _ (e : ℕ) (taker : owner_of to ≡ monitor.number e) where
+      pub given_own : (page : ℕ) → is_among pages page ≡ true → IsOwn (given_to owners pages to) e page
+      given_own page among = ap (option_map owner_of) (given_here page among) ∙ ap Some taker
+
+      -- a page with another owner isn't listed
+      other_unlisted : (page : ℕ) (now : Owner) → owner_of now ≢ monitor.number e → slice_get (given_to owners pages to) page ≡ Some now → is_among pages page ≡ false
+      other_unlisted page now other is = elim (cases_Bool (is_among pages page)) [
+        | inl among ↦ absurd (other (let h : Some (owner_of now) ≡ Some (monitor.number e) = sym (ap (option_map owner_of) is) ∙ given_own page among in cc))
+        | inr out ↦ out
+      ]
+
+      pub guard_stood : (page : ℕ) → slice_get (given_to owners pages to) page ≡ Some Guard → slice_get owners page ≡ Some Guard
+      guard_stood page is = sym (given_other owners to pages page (other_unlisted page Guard (λ same. cc) is)) ∙ is
+
+      module _ (s s' : Monitor) (owner : (page : ℕ) → s'.owner page ≡ (if is_among pages page then Some (monitor.number e) else s.owner page)) where
+        pub given_agree : ((page : ℕ) → maps_of s' page ≡ maps_of s page) → OwnersAgree owners s → OwnersAgree (given_to owners pages to) s'
+        given_agree maps old = record {
+          owner = λ page. elim (cases_Bool (is_among pages page)) [
+            | inl among ↦ owner page ∙ ap (λ b. if b then Some (monitor.number e) else s.owner page) among ∙ sym (given_own page among)
+            | inr out ↦ owner page ∙ ap (λ b. if b then Some (monitor.number e) else s.owner page) out ∙ old.owner page
+                ∙ sym (ap (option_map owner_of) (given_other owners to pages page out))
+          ];
+          maps = λ page count is.
+              let out : is_among pages page ≡ false = other_unlisted page (Host count) (λ same. cc) is in
+              old.maps page count (sym (given_other owners to pages page out) ∙ is) ∙ sym (maps page);
+        }
+
+        pub given_host : (off_chip : List ℕ) → ((page : ℕ) → s'.bytes page ≡ s.bytes page) → HostBytesAgree off_chip s → HostBytesAgree off_chip s'
+        given_host off_chip bytes old page is = elim (cases_Bool (is_among pages page)) [
+          | inl among ↦ (let h : false ≡ true = sym (ap is_host (owner page ∙ ap (λ b. if b then Some (monitor.number e) else s.owner page) among)) ∙ is in cc)
+          | inr out ↦ old page (sym (ap is_host (owner page ∙ ap (λ b. if b then Some (monitor.number e) else s.owner page) out)) ∙ is) ∙ sym (bytes page)
+        ]

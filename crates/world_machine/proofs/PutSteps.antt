@@ -1,11 +1,11 @@
 -- Each step of making a number puts 4,096 bytes into a page of the number, and each another one.
-use Rattle.std.proofs.Common.{◌≡◌, ◌≢◌, ℕ, zero, suc, ◌+◌, ◌-◌, ◌*◌, ◌<◌, ◌≤◌, ◌⊎◌, eqb, ltb, if◌then◌else◌, List, [], ◌∷◌, ◌++◌, length, map, get_or, replicate, slice_get, refl, sym, ap, ◌∙◌, subst, arith, inl, inr, length-append, None, Some}
+use Rattle.std.proofs.Common.{◌≡◌, ◌≢◌, ℕ, zero, suc, ◌+◌, ◌-◌, ◌*◌, ◌<◌, ◌≤◌, ◌⊎◌, eqb, ltb, if◌then◌else◌, List, [], ◌∷◌, ◌++◌, length, map, get_or, replicate, slice_get, option_map, refl, sym, ap, ◌∙◌, subst, arith, inl, inr, length-append, None, Some}
 use Rattle.std.specs.Prelude.{Contains}
-use Rattle.std.specs.List.{All, flat_map, zip}
+use Rattle.std.specs.List.{flat_map, zip}
 use Rattle.std.specs.Option.{option_map_or}
 use Rattle.std.proofs.lemmas.Bool.{cases_Bool, ltb-true, ltb-false}
 use Rattle.std.proofs.lemmas.List.{length-map, length-replicate}
-use Rattle.std.proofs.lemmas.List.Elements.{All-get_or, Contains-get_or}
+use Rattle.std.proofs.lemmas.List.Elements.{Contains-get_or}
 use Rattle.std.proofs.lemmas.Option.{slice_get-get_or, slice_get_within}
 use Rattle.byteorder.specs.Endian.{little_bytes}
 use Rattle.byteorder.specs.Numbers.{length-bytes_low_first}
@@ -17,12 +17,13 @@ use Rattle.mon_image.specs.declared.page.ImagePage.{ImagePage}
 use Rattle.mon_life.specs.Pages.{PagePut, leaf_for, leaves_of, page_put_at}
 use Rattle.mon_owner.specs.declared.owners.Owner.{Owner}
 use Rattle.mon_owner.specs.declared.owners.Owner.TheVariants.{Guard}
-use Rattle.mon_owner.specs.declared.owners.Owner.TheVariants as owner_is
 use Rattle.mon_tables.specs.declared.number_tables.Leaf.{Leaf}
 use Rattle.mon_tables.specs.Space.{first_vpn}
 use Rattle.mon_tables.specs.Tables.{leaf_of, leaf_words, number_table_bytes, pointing_words, table_number, table_words}
+use Rattle.pl_history.specs.Monitor as monitor
 use Rattle.world_machine.specs.EnclavesAgree.{IsOwn}
 use Rattle.world_machine.specs.Pages.{numbers_of}
+use Rattle.world_machine.specs.RecordsAgree.{owner_of}
 use Rattle.pl_base.proofs.DistinctPages.{stands_once}
 use Rattle.mon_life.proofs.StepLemmas.{image_stands, tables_stand}
 use Rattle.world_machine.proofs.PutPages.{image_page}
@@ -63,7 +64,7 @@ zip_few [] pages = omega arith
 zip_few (kind ∷ kinds) [] = omega arith
 zip_few (kind ∷ kinds) (page ∷ pages) = let rest = zip_few kinds pages in omega arith
 
-leaves_few : (kinds : List PageKind) (pages : List ImagePage) → length (leaves_of kinds pages) ≤ length pages
+pub leaves_few : (kinds : List PageKind) (pages : List ImagePage) → length (leaves_of kinds pages) ≤ length pages
 unfolding leaves_of
 leaves_few kinds pages = subst (λ n. n ≤ length pages) (sym (length-map (zip kinds pages) (λ (p : PageKind × ImagePage). leaf_for p.0 p.1.perms))) (zip_few kinds pages)
 
@@ -117,14 +118,12 @@ module _ (tables e : ℕ) (image : Image) (kinds : List PageKind) where
       | inr past ↦ inr (2 - (at - length image.pages), omega arith, table_put_at at (ltb-false at (length image.pages) past))
     ]
 
-    module _ (owners : List Owner) (owned : All (IsOwn owners e) (numbers_of kinds)) where
-      own_owned : (at : ℕ) → at < length image.pages → IsOwn owners e (put at).page
-      own_owned at below = subst (IsOwn owners e) (sym (own_put at below)) (All-get_or (IsOwn owners e) (numbers_of kinds) at 0 (subst (λ n. at < n) (sym own_size) below) owned)
-
-      -- a step puts a page of the number
-      pub put_of_number : (at : ℕ) → at < length image.pages + 3 → IsOwn owners e (put at).page ⊎ ((level : ℕ) × (level < 3) × ((put at).page ≡ table_number tables e level))
-      put_of_number at few = elim (cases_Bool (ltb at (length image.pages))) [
-        | inl within ↦ inl (own_owned at (ltb-true at (length image.pages) within))
+    -- the steps from this one on put pages of the number: of the image, the number's own, or its tables
+    module _ (owners : List Owner) (first : ℕ) (owned : (at : ℕ) → first ≤ at → at < length image.pages → IsOwn owners e (put at).page) where
+      pub put_of_number : (at : ℕ) → first ≤ at → at < length image.pages + 3
+          → IsOwn owners e (put at).page ⊎ ((level : ℕ) × (level < 3) × ((put at).page ≡ table_number tables e level))
+      put_of_number at from few = elim (cases_Bool (ltb at (length image.pages))) [
+        | inl within ↦ inl (owned at from (ltb-true at (length image.pages) within))
         | inr past ↦ inr (2 - (at - length image.pages), omega arith, table_put_at at (ltb-false at (length image.pages) past))
       ]
 
@@ -137,10 +136,11 @@ module _ (tables e : ℕ) (image : Image) (kinds : List PageKind) where
             stands_once (numbers_of kinds) apart at later (get_or (numbers_of kinds) at 0) here
             (there ∙ ap Some (sym (own_put later also) ∙ sym same ∙ own_put at below))
 
-        own_or_table : (at later : ℕ) → at < length image.pages → length image.pages ≤ later → (put at).page ≢ (put later).page
-        own_or_table at later below beyond same =
-            let clash : Some (owner_is.Enclave (record { 0 = e })) ≡ Some Guard
-            = sym (own_owned at below) ∙ ap (slice_get owners) (same ∙ table_put_at later beyond) ∙ guarded (2 - (later - length image.pages)) in
+        own_or_table : (at later : ℕ) → first ≤ at → at < length image.pages → length image.pages ≤ later → (put at).page ≢ (put later).page
+        own_or_table at later from below beyond same =
+            let guarded_here : option_map owner_of (slice_get owners (put at).page) ≡ Some monitor.guard
+            = ap (λ page. option_map owner_of (slice_get owners page)) (same ∙ table_put_at later beyond) ∙ ap (option_map owner_of) (guarded (2 - (later - length image.pages))) in
+            let clash : Some (monitor.number e) ≡ Some monitor.guard = sym (owned at from below) ∙ guarded_here in
             cc
 
         tables_differ : (at later : ℕ) → length image.pages ≤ at → at < later → later < length image.pages + 3 → (put at).page ≢ (put later).page
@@ -150,13 +150,13 @@ module _ (tables e : ℕ) (image : Image) (kinds : List PageKind) where
             absurd (omega arith)
 
         -- an earlier step puts another page
-        pub puts_apart : (at later : ℕ) → at < later → later < length image.pages + 3 → (put at).page ≢ (put later).page
-        puts_apart at later before few same = elim (cases_Bool (ltb at (length image.pages))) [
+        pub puts_apart : (at later : ℕ) → first ≤ at → at < later → later < length image.pages + 3 → (put at).page ≢ (put later).page
+        puts_apart at later from before few same = elim (cases_Bool (ltb at (length image.pages))) [
           | inl within ↦
               let below : at < length image.pages = ltb-true at (length image.pages) within in
               elim (cases_Bool (ltb later (length image.pages))) [
                 | inl too ↦ (let is : at ≡ later = own_apart at later below (ltb-true later (length image.pages) too) same in absurd (omega arith))
-                | inr past ↦ own_or_table at later below (ltb-false later (length image.pages) past) same
+                | inr past ↦ own_or_table at later from below (ltb-false later (length image.pages) past) same
               ]
           | inr past ↦ tables_differ at later (ltb-false at (length image.pages) past) before few same
         ]

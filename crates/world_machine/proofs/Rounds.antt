@@ -13,18 +13,19 @@ use Rattle.mem_slots.specs.declared.slot_use.SlotUse.{SlotUse}
 use Rattle.pl_history.specs.declared.line.AttackLine.{AttackLine}
 use Rattle.pl_history.specs.declared.line.AttackLine.TheVariants as attack
 use Rattle.pl_history.specs.declared.line.Line.{Line}
-use Rattle.pl_history.specs.declared.line.Line.TheVariants.{Load, Store, Map, Unmap, Create, Run, Resume, Send, Take, Destroy, After}
+use Rattle.pl_history.specs.declared.line.Line.TheVariants.{Load, Store, Map, Unmap, Create, Shadow, Fork, Grant, Run, Resume, Send, Take, Destroy, Drop, After}
 use Rattle.world_machine.specs.declared.turned.Finished.{Finished}
 use Rattle.world_machine.specs.declared.turned.Finished.TheVariants as finished
 use Rattle.world_machine.specs.declared.turned.Turned.{Turned}
 use Rattle.world_machine.specs.declared.turned.Turned.TheVariants as turned
 use Rattle.world_machine.specs.declared.turned.Wait.TheVariants as wait
 use Rattle.world_machine.specs.declared.under.Under.{Under}
-use Rattle.world_machine.specs.declared.under.Under.TheVariants.{Idle, Seeking, Removing, Destroying, Putting, Running}
+use Rattle.world_machine.specs.declared.under.Under.TheVariants.{Idle, Seeking, Removing, Destroying, Putting, Running, Breaking}
 use Rattle.world_machine.specs.Acknowledging.{owed}
 use Rattle.world_machine.specs.GivingBack.{ends_destroy}
 use Rattle.world_machine.specs.HostMapping.{ends_unmap, lacked_by}
 use Rattle.world_machine.specs.Reached.{Reached}
+use Rattle.world_machine.specs.Running.{restarts}
 use Rattle.world_machine.specs.Runs.{acknowledgements, all_answered, hart_turns, is_still, nobody_moves, over_of, remaining, round_of}
 use Rattle.world_machine.specs.Standing.{Kept}
 use Rattle.world_machine.specs.Steps.{Ran, Step, StepOf, Turn, ack_turn, actor_turn, attacker_turn, due, hart_turn, moves, rests, stepped, turn_of, turned_by, waiting_turn, world_after}
@@ -73,12 +74,20 @@ module _ (digest_of : List ℕ → List ℕ) (w : WorldData) (nobody : (hart : �
   due_still hart positions (Unmap va) (Removing page) = ending (ends_unmap w hart page) (lacked_by w hart) (nobody hart)
   due_still hart positions (Destroy e) Idle = tt
   due_still hart positions (Destroy e) Destroying = ending (ends_destroy w hart e) (lacked_by w hart) (nobody hart)
+  due_still hart positions (Drop shadow) Idle = tt
   due_still hart positions (Create e image pages) Idle = tt
   due_still hart positions (Create e image pages) (Putting done) = tt
+  due_still hart positions (Shadow e image pages) Idle = tt
+  due_still hart positions (Shadow e image pages) (Putting done) = tt
+  due_still hart positions (Fork shadow e pages) Idle = tt
+  due_still hart positions (Fork shadow e pages) (Putting done) = tt
+  due_still hart positions (Grant e page) Idle = tt
   due_still hart positions (Run e budget) Idle = tt
   due_still hart positions (Run e budget) (Running micro count) = tt
+  due_still hart positions (Run e budget) (Breaking count) = ending (restarts w hart count) (lacked_by w hart) (nobody hart)
   due_still hart positions (Resume e budget) Idle = tt
   due_still hart positions (Resume e budget) (Running micro count) = tt
+  due_still hart positions (Resume e budget) (Breaking count) = ending (restarts w hart count) (lacked_by w hart) (nobody hart)
   due_still hart positions (Send e word) Idle = tt
   due_still hart positions (Take e) Idle = tt
   due_still hart positions (After actor count) Idle = waiting actor count _ (leb count (answered_at w.answered actor))

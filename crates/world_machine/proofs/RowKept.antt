@@ -17,8 +17,10 @@ use Rattle.pl_history.specs.History.{HistoryData}
 use Rattle.pl_history.specs.Monitor.{Attack, Monitor, Number, script_of}
 use Rattle.world_machine.specs.declared.under.Under.{Under}
 use Rattle.world_machine.specs.BytesAgree.{ByteAgrees, HasPut, HostBytesAgree, OnlyAttacksDiffer, PageAgrees}
-use Rattle.world_machine.specs.EnclavesAgree.{EnclavesAgree}
+use Rattle.world_machine.specs.EnclavesAgree.{EnclavesAgree, is_made}
 use Rattle.world_machine.specs.LinesUnderWay.{LineUnderWay, NumbersApart, number_under_way}
+use Rattle.world_machine.specs.Pages.{numbers_of}
+use Rattle.world_machine.specs.PagesAgree.{PagesAgree}
 use Rattle.world_machine.specs.RecordsAgree.{OwnersAgree, RecordsAgree}
 use Rattle.world_machine.specs.Sizes.{HasSizes}
 use Rattle.world_machine.specs.TranslationsAgree.{TranslationsStand}
@@ -56,9 +58,10 @@ pub record RowFacts (digest_of : List ℕ → List ℕ) (w : WorldData) (actor :
   pub trees : IsKept digest_of ctl
   pub owners_agree : OwnersAgree owners s
   pub records : RecordsAgree (enclave_at enclaves) s.number
+  pub pages_agree : PagesAgree w.setup (enclave_at enclaves) s.number
   pub enclaves_agree : EnclavesAgree w.setup (page_bytes ctl.mirror) owners (enclave_at enclaves) s.number
   pub host : HostBytesAgree ctl.off_chip s
-  pub attacks : OnlyAttacksDiffer w.setup.zones ctl.off_chip ctl.mirror s.attacks owners s.number (line_after w answered) (under_at under)
+  pub attacks : OnlyAttacksDiffer w.setup.zones ctl.off_chip ctl.mirror s.attacks owners (enclave_at enclaves) s.number (line_after w answered) (under_at under)
   pub other_lines : (hart : ℕ) → hart ≢ actor → LineUnderWay w.setup (page_bytes ctl.mirror) (enclave_at enclaves) s.number hart (hart_line w hart) (under_at w.under hart)
   pub own_line : LineUnderWay w.setup (page_bytes ctl.mirror) (enclave_at enclaves) s.number actor (slice_get (script_of w.setup actor) count) u
   pub own_apart : (hart e : ℕ) → hart ≢ actor → number_under_way (slice_get (script_of w.setup actor) count) u ≡ Some e
@@ -74,7 +77,6 @@ module _ (digest_of : List ℕ → List ℕ) (w : WorldData) (actor : ℕ) (ctl 
   sizes : HasSizes w.setup ctl owners enclaves under answered
   sizes = record {
     rules = k.sizes.rules;
-    built = k.sizes.built;
     bytes = k.sizes.bytes;
     lines_fit = k.sizes.lines_fit;
     zones = f.sizes.zones ∙ k.sizes.zones;
@@ -135,6 +137,7 @@ module _ (digest_of : List ℕ → List ℕ) (w : WorldData) (actor : ℕ) (ctl 
     owners = f.owners_agree;
     records = f.records;
     progress = progress_agrees w actor under answered history s u count k.stands.progress f.line;
+    pages = f.pages_agree;
     enclaves = f.enclaves_agree;
     host = f.host;
     attacks = f.attacks;
@@ -167,6 +170,7 @@ beside_kept digest_of w o moves k is = record {
     owners = k.stands.owners;
     records = k.stands.records;
     progress = k.stands.progress;
+    pages = k.stands.pages;
     enclaves = k.stands.enclaves;
     host = k.stands.host;
     attacks = k.stands.attacks;
@@ -184,7 +188,7 @@ collision_kept digest_of w c k is = beside_kept digest_of w (Some c) w.moves k i
 
 -- ---- bytes that differ
 
-module _ (zones : ℕ) (off mirror off' mirror' : List ℕ) (attacks attacks' : List Attack) (owners owners' : List Owner) (number number' : ℕ → Number)
+module _ (zones : ℕ) (off mirror off' mirror' : List ℕ) (attacks attacks' : List Attack) (owners owners' : List Owner) (rec rec' : ℕ → Enclave) (number number' : ℕ → Number)
     (line line' : ℕ → Option Line) (under under' : ℕ → Under) (actor e : ℕ)
     (bytes : (i : ℕ) → ByteAgrees off mirror attacks i → ByteAgrees off' mirror' attacks' i) where
   pub page_still : (page : ℕ) → PageAgrees off mirror attacks page → PageAgrees off' mirror' attacks' page
@@ -193,20 +197,20 @@ module _ (zones : ℕ) (off mirror off' mirror' : List ℕ) (attacks attacks' : 
   -- what an event leaves that changes the pages of one number at most, and the line of one actor
   pub record AttacksFrame : Type 0 where
     pub guarded : (page : ℕ) → slice_get owners' page ≡ Some Guard → slice_get owners page ≡ Some Guard
-    pub lives : (f : ℕ) → f ≢ e → (number' f).live ≡ (number f).live
-    pub pages : (f : ℕ) → f ≢ e → (number' f).pages ≡ (number f).pages
+    pub made : (f : ℕ) → f ≢ e → is_made (number' f) ≡ is_made (number f)
+    pub pages : (f : ℕ) → f ≢ e → (rec' f).pages ≡ (rec f).pages
     pub lines : (hart : ℕ) → hart ≢ actor → line' hart ≡ line hart
     pub unders : (hart : ℕ) → hart ≢ actor → under' hart ≡ under hart
-    pub live_own : (page : ℕ) → Contains (number' e).pages page → (number' e).live ≡ true → PageAgrees off' mirror' attacks' page
+    pub made_own : (page : ℕ) → Contains (numbers_of (rec' e).pages) page → is_made (number' e) ≡ true → PageAgrees off' mirror' attacks' page
     pub put_own : (page : ℕ) → HasPut (line' actor) (under' actor) page → PageAgrees off' mirror' attacks' page
 
-  pub attacks_frame : AttacksFrame → OnlyAttacksDiffer zones off mirror attacks owners number line under → OnlyAttacksDiffer zones off' mirror' attacks' owners' number' line' under'
+  pub attacks_frame : AttacksFrame → OnlyAttacksDiffer zones off mirror attacks owners rec number line under → OnlyAttacksDiffer zones off' mirror' attacks' owners' rec' number' line' under'
   attacks_frame f old = record {
     nodes = λ i past. bytes i (old.nodes i past);
     guarded = λ page is. page_still page (old.guarded page (f.guarded page is));
-    live = λ page g. everywhere (λ g. Contains (number' g).pages page → (number' g).live ≡ true → PageAgrees off' mirror' attacks' page) e
-        (f.live_own page)
-        (λ g other is live. page_still page (old.live page g (subst (λ pages. Contains pages page) (f.pages g other) is) (sym (f.lives g other) ∙ live))) g;
+    made = λ page g. everywhere (λ g. Contains (numbers_of (rec' g).pages) page → is_made (number' g) ≡ true → PageAgrees off' mirror' attacks' page) e
+        (f.made_own page)
+        (λ g other is made. page_still page (old.made page g (subst (λ kinds. Contains (numbers_of kinds) page) (f.pages g other) is) (sym (f.made g other) ∙ made))) g;
     put = λ hart page. everywhere (λ hart. HasPut (line' hart) (under' hart) page → PageAgrees off' mirror' attacks' page) actor
         (f.put_own page)
         (λ hart other is. page_still page (old.put hart page (subst (λ u. HasPut (line hart) u page) (f.unders hart other) (subst (λ l. HasPut l (under' hart) page) (f.lines hart other) is)))) hart;

@@ -1,8 +1,7 @@
 -- The fetch of an instruction keeps what a world keeps.
-use Rattle.std.proofs.Common.{◌≡◌, ℕ, ◌%◌, ◌<◌, Bool, List, length, slice_get, Option, Some, None, sym, ap, ◌∙◌, subst, arith, inl}
+use Rattle.std.proofs.Common.{◌≡◌, ℕ, ◌%◌, ◌<◌, Bool, List, length, slice_get, Some, None, sym, ap, ◌∙◌, subst, arith, inl}
 use Rattle.pl_base.specs.declared.access.Kind.TheVariants as kind
 use Rattle.pl_base.specs.declared.number.EncNo.{EncNo}
-use Rattle.pl_base.specs.declared.state.Why.TheVariants as why_is
 use Rattle.mem_geom.specs.Parts.{page_bytes}
 use Rattle.mem_ctl.specs.Calls.{read_word_of}
 use Rattle.mem_ctl.specs.Data.{After, CtlData, going}
@@ -17,18 +16,17 @@ use Rattle.rv_alone.specs.Flat.{fetched}
 use Rattle.rv_hart.specs.declared.walks.Micro.{Micro}
 use Rattle.world_attack.specs.Room.{RoomStays}
 use Rattle.world_machine.specs.declared.under.Under.TheVariants.{Running}
-use Rattle.world_machine.specs.Pages.{fault_cause, flat_pages, located, numbers_of, part_of_word, word_offset}
+use Rattle.world_machine.specs.Pages.{flat_pages, numbers_of, part_of_word, word_offset}
 use Rattle.world_machine.specs.Running.{RunNow, acts, fetched_in}
 use Rattle.world_machine.specs.Standing.{Kept}
 use Rattle.world_machine.specs.Worlds.{WorldData, hart_line, under_at}
-use Rattle.world_machine.proofs.FlatPages.{located_among}
-use Rattle.world_machine.proofs.InstructionWays.{fetch_stops}
+use Rattle.world_machine.proofs.FlatPages.{located, located_among}
 use Rattle.world_machine.proofs.Instructions.{IsFetched}
 use Rattle.world_machine.proofs.LiveEnclaves.{live_fetched}
 use Rattle.world_machine.proofs.RunAccesses.{same_bytes}
 use Rattle.world_machine.proofs.RunMoves.{run_line}
 use Rattle.world_machine.proofs.RunReads.{read_event, told}
-use Rattle.world_machine.proofs.RunRows.{acts_kept, alone_so, standing, stops_kept}
+use Rattle.world_machine.proofs.RunRows.{acts_kept, alone_so, standing}
 
 -- an image of a record is one
 one_image : (images : List Image) (number : ℕ) (a b : Image) → slice_get images number ≡ Some a → slice_get images number ≡ Some b → a ≡ b
@@ -72,12 +70,9 @@ module _ (digest_of : List ℕ → List ℕ) (room_stays : RoomStays) (reads : R
       (fetched_over image now.image (page_bytes w.ctl.mirror) (page_bytes ctl.mirror) r word (act_of r.context word) (one_image w.setup.images r.image image now.image old.image_is now.image_is) (same image)
       (live_fetched image w.ctl.mirror r (alone_so digest_of room_stays w k none hart below first e budget count micro here under there).live page eight at is))
 
-  -- the fetch in the page that is located, or none
-  pub fetch_kept : (o : Option ℕ) → located kind.Fetch image.pages (numbers_of r.pages) r.context.pc ≡ o → Kept digest_of (fetched_in digest_of w run r positions o).world
-  fetch_kept None at =
-      stops_kept digest_of room_stays w k none hart below first e budget count micro here under there (why_is.Trapped (fault_cause kind.Fetch) r.context.pc)
-      (fetch_stops image w.ctl.mirror r (alone_so digest_of room_stays w k none hart below first e budget count micro here under there).live 0 at)
-  fetch_kept (Some page) at =
+  -- the fetch in the page that is located
+  pub fetch_kept : (page : ℕ) → located kind.Fetch image.pages (numbers_of r.pages) r.context.pc ≡ Some page → Kept digest_of (fetched_in digest_of w run r positions (Some page)).world
+  fetch_kept page at =
       let call : After ℕ = read_word_of digest_of page (word_offset r.context.pc) (going w.ctl positions) in
       let among = located_among kind.Fetch image.pages (numbers_of r.pages) r.context.pc page at in
       let says = told digest_of room_stays reads w k none hart below first e budget count micro here under there positions page (word_offset r.context.pc)

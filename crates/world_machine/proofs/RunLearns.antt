@@ -1,5 +1,5 @@
 -- A run's walk learns from a word of the number's tables: the world keeps what it kept.
-use Rattle.std.proofs.Common.{◌≡◌, ℕ, ◌<◌, Bool, true, List, length, Some, None, sym, subst}
+use Rattle.std.proofs.Common.{◌≡◌, ℕ, ◌<◌, Bool, true, List, length, Some, None, sym, ap, ◌∙◌, subst}
 use Rattle.std.specs.Prelude.{Result, Ok, Err}
 use Rattle.std.specs.List.{All}
 use Rattle.pl_base.specs.declared.access.Kind.{Kind}
@@ -22,15 +22,17 @@ use Rattle.mon_image.specs.declared.page.ImagePage.{ImagePage}
 use Rattle.pl_history.specs.Monitor.{Monitor}
 use Rattle.world_attack.specs.Room.{RoomStays}
 use Rattle.world_machine.specs.declared.under.Under.TheVariants.{Running}
-use Rattle.world_machine.specs.LinesUnderWay.{InstructionStands, IsAccessed}
+use Rattle.world_machine.specs.Accesses.{HasAcknowledged}
+use Rattle.world_machine.specs.LinesUnderWay.{InstructionStands, IsAccessed, number_under_way}
 use Rattle.world_machine.specs.Making.{image_of}
 use Rattle.world_machine.specs.Running.{RunNow, run_learns}
 use Rattle.world_machine.specs.Standing.{Kept, state_of, written_page}
 use Rattle.world_machine.specs.Translating.{number_view}
 use Rattle.world_machine.specs.TranslationsAgree.{IsFresh, WalkStands, WalkingStands, walking_of}
 use Rattle.world_machine.specs.Worlds.{WorldData, hart_line, tlb_at, under_at, with_tlb}
+use Rattle.world_machine.proofs.Leaving.{runs_acknowledged}
 use Rattle.world_machine.proofs.NumberTranslations.{given, given_fresh, given_none, learned_stands, tlb_learns, walks}
-use Rattle.world_machine.proofs.RunMoves.{run_line}
+use Rattle.world_machine.proofs.RunMoves.{run_line, runs_number}
 use Rattle.world_machine.proofs.RunRows.{running}
 use Rattle.world_machine.proofs.RunWalks.{walk_kept, walk_now}
 use Rattle.world_machine.proofs.WalkLemmas.{LearnsSo}
@@ -61,10 +63,15 @@ module _ (digest_of : List ℕ → List ℕ) (room_stays : RoomStays) (w : World
   view = number_view w.setup.tables e.0
 
   abbrev Fresh : TlbEntry → Type 0
-  Fresh = IsFresh w.setup s w.fences hart
+  Fresh = IsFresh w.setup (enclave_at w.enclaves) s w.fences hart
 
   abbrev entries : List TlbEntry
   entries = tlb_at w.tlbs hart
+
+  -- the hart that runs the number has acknowledged the pages that it broke
+  pub acknowledged : HasAcknowledged w hart e.0
+  acknowledged = runs_acknowledged digest_of w k hart e.0
+      (ap (λ l. number_under_way l (under_at w.under hart)) here ∙ ap (number_under_way (Some (run_line first e budget))) under ∙ runs_number first e budget count (on walk))
 
   pub walk_stands : WalkStands w.ctl Fresh view address walk
   walk_stands =
@@ -82,11 +89,11 @@ module _ (digest_of : List ℕ → List ℕ) (room_stays : RoomStays) (w : World
     after = tlb_after walk word address access view entries
 
     all_after : All Fresh after
-    all_after = tlb_learns digest_of w k e.0 live hart address access walk walk_stands pa level asks
+    all_after = tlb_learns digest_of w k e.0 live hart acknowledged address access walk walk_stands pa level asks
 
     abbrev Learns : Result Walk NoPage → Type 0
-    Learns = LearnsSo w.ctl Fresh view address access walk entries pa level walk_stands asks (given digest_of w k e.0 live hart address access)
-        (walks digest_of w k e.0 live hart address access walk walk_stands pa level asks) (given_fresh digest_of w k e.0 live hart address access)
+    Learns = LearnsSo w.ctl Fresh view address access walk entries pa level walk_stands asks (given digest_of w k e.0 live hart acknowledged address access)
+        (walks digest_of w k e.0 live hart acknowledged address access walk walk_stands pa level asks) (given_fresh digest_of w k e.0 live hart acknowledged address access)
 
     learned_by : (o : Result Walk NoPage) → Learns o → Kept digest_of (run_learns run on va access (with_tlb w hart after) o)
     learned_by (Ok more) stands =
@@ -94,8 +101,8 @@ module _ (digest_of : List ℕ → List ℕ) (room_stays : RoomStays) (w : World
         (subst (WalkingStands w.ctl Fresh) (sym (to.walking more)) stands)
     learned_by (Err fault) stands =
         walk_kept digest_of room_stays w k none hart below first e budget count (on walk) here under there (Faulting va access) after
-        (to.accesses (written_page w) walk instruction, given_none digest_of w k e.0 live hart address access stands) all_after tt
+        (to.accesses (written_page w) walk instruction, given_none digest_of w k e.0 live hart acknowledged address access stands) all_after tt
 
     -- the world after the word is learned
     pub learned_kept : Kept digest_of (run_learns run on va access (with_tlb w hart after) (learned walk word address access view))
-    learned_kept = learned_by (learned walk word address access view) (learned_stands digest_of w k e.0 live hart address access walk walk_stands pa level asks)
+    learned_kept = learned_by (learned walk word address access view) (learned_stands digest_of w k e.0 live hart acknowledged address access walk walk_stands pa level asks)

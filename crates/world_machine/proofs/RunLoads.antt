@@ -1,8 +1,7 @@
 -- A load keeps what a world keeps.
-use Rattle.std.proofs.Common.{◌≡◌, ℕ, ◌<◌, Bool, List, length, Option, Some, None, sym, ap, ◌∙◌, inl}
+use Rattle.std.proofs.Common.{◌≡◌, ℕ, ◌<◌, Bool, List, length, Some, None, sym, ap, ◌∙◌, inl, refl}
 use Rattle.pl_base.specs.declared.access.Kind.TheVariants as kind
 use Rattle.pl_base.specs.declared.number.EncNo.{EncNo}
-use Rattle.pl_base.specs.declared.state.Why.TheVariants as why_is
 use Rattle.mem_geom.specs.Parts.{page_bytes}
 use Rattle.mem_ctl.specs.Calls.{read_word_of}
 use Rattle.mem_ctl.specs.Data.{After, going}
@@ -17,19 +16,18 @@ use Rattle.rv_alone.specs.Effect.{loaded}
 use Rattle.rv_hart.specs.declared.walks.Micro.{Micro}
 use Rattle.world_attack.specs.Room.{RoomStays}
 use Rattle.world_machine.specs.declared.under.Under.TheVariants.{Running}
-use Rattle.world_machine.specs.Pages.{fault_cause, flat_pages, located, numbers_of, part_of_word, word_offset}
+use Rattle.world_machine.specs.Pages.{flat_pages, numbers_of, part_of_word, word_offset}
 use Rattle.world_machine.specs.Running.{RunNow, loads_in, retired_with, retires}
 use Rattle.world_machine.specs.Standing.{Kept}
 use Rattle.world_machine.specs.Worlds.{WorldData, hart_line, under_at}
-use Rattle.world_machine.proofs.FlatPages.{located_among}
-use Rattle.world_machine.proofs.InstructionWays.{load_stops}
+use Rattle.world_machine.proofs.FlatPages.{located, located_among}
 use Rattle.world_machine.proofs.Instructions.{IsFetched, Retires, flat_of}
 use Rattle.world_machine.proofs.LiveEnclaves.{live_load}
 use Rattle.world_machine.proofs.RunAccesses.{access, same_bytes}
 use Rattle.world_machine.proofs.RunFetches.{offset_aligned, offset_inside}
 use Rattle.world_machine.proofs.RunMoves.{run_line}
 use Rattle.world_machine.proofs.RunReads.{read_event, told}
-use Rattle.world_machine.proofs.RunRows.{alone_so, retires_kept, standing, stops_kept}
+use Rattle.world_machine.proofs.RunRows.{alone_so, retires_kept, standing, pages_stay}
 
 -- an instruction that retired, over other bytes of which the pages have the same
 retires_over : (image : List ImagePage) (before after : ℕ → List ℕ) (r now : Enclave) → flat_pages after image (numbers_of now.pages) ≡ flat_pages before image (numbers_of now.pages)
@@ -56,11 +54,8 @@ module _ (digest_of : List ℕ → List ℕ) (room_stays : RoomStays) (reads : R
   image = (standing digest_of room_stays w k none hart below first e budget count micro here under there).image
 
   module _ (is : IsFetched image.pages (page_bytes w.ctl.mirror) r word (Load address width is_signed rd)) where
-    pub load_kept : (o : Option ℕ) → located kind.Load image.pages (numbers_of r.pages) address ≡ o → Kept digest_of (loads_in digest_of w run r positions address width is_signed rd o).world
-    load_kept None at =
-        stops_kept digest_of room_stays w k none hart below first e budget count micro here under there (why_is.Trapped (fault_cause kind.Load) address)
-        (load_stops image w.ctl.mirror r (alone_so digest_of room_stays w k none hart below first e budget count micro here under there).live word address width is_signed rd is at)
-    load_kept (Some page) at =
+    pub load_kept : (page : ℕ) → located kind.Load image.pages (numbers_of r.pages) address ≡ Some page → Kept digest_of (loads_in digest_of w run r positions address width is_signed rd (Some page)).world
+    load_kept page at =
         let call : After ℕ = read_word_of digest_of page (word_offset address) (going w.ctl positions) in
         let among = located_among kind.Load image.pages (numbers_of r.pages) address page at in
         let says = told digest_of room_stays reads w k none hart below first e budget count micro here under there positions page (word_offset address)
@@ -70,8 +65,9 @@ module _ (digest_of : List ℕ → List ℕ) (room_stays : RoomStays) (reads : R
         (λ eight. retires (record w { ctl = call.after.ctl }) run (retired_with r (loaded r.context rd width is_signed (part_of_word eight address width))))
         (λ eight eight_is stay kept.
         let now : Enclave = retired_with r (loaded r.context rd width is_signed (part_of_word eight address width)) in
+        let steps = live_load image w.ctl.mirror r (alone_so digest_of room_stays w k none hart below first e budget count micro here under there).live word address width is_signed rd page eight is at eight_is in
         retires_kept digest_of room_stays w k none hart below first e budget count micro here under there call.after.ctl
         (access digest_of room_stays w k none hart below first e budget count micro here under there call.after.ctl says.leaves stay) now
         (retires_over image.pages (page_bytes w.ctl.mirror) (page_bytes call.after.ctl.mirror) r now
-        (same_bytes digest_of room_stays w k none hart below first e budget count micro here under there call.after.ctl says.leaves stay image.pages)
-        (live_load image w.ctl.mirror r (alone_so digest_of room_stays w k none hart below first e budget count micro here under there).live word address width is_signed rd page eight is at eight_is)))
+        (same_bytes digest_of room_stays w k none hart below first e budget count micro here under there call.after.ctl says.leaves stay image.pages) steps)
+        (pages_stay digest_of room_stays w k none hart below first e budget count micro here under there now steps word (Load address width is_signed rd) is refl))

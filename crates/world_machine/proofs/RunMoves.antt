@@ -33,8 +33,12 @@ use Rattle.world_machine.specs.Worlds.{WorldData, hart_line, under_at}
 use Rattle.world_machine.proofs.LineMoves.{LineMoves}
 use Rattle.world_machine.proofs.LineTranslations.{isnt_waiting}
 use Rattle.world_machine.proofs.Lists.{changed_set}
-use Rattle.world_machine.proofs.NumberRows.{AllButOneStay, HartTranslates, IsOfNumber, NumberBecomes, number_row, own_leaves_tables}
+use Rattle.world_machine.proofs.NumberRows.{AllButOneStay, HartTranslates, IsPageOfNumber, NumberBecomes, number_row, own_leaves_tables}
 use Rattle.world_machine.proofs.RowKept.{with_parts}
+use Rattle.world_machine.specs.Pages.{numbers_of}
+use Rattle.world_machine.specs.PagesAgree.{PagesAre}
+use Rattle.world_machine.proofs.StandingEnclaves.{KeepsPages}
+use Rattle.world_machine.proofs.LiveEnclaves.{live_made}
 
 -- ---- a line that runs a number: `run`, which is the first, or `resume`
 
@@ -81,7 +85,7 @@ no_put false e budget count page micro k = k
 pub record AfterAccess (digest_of : List ℕ → List ℕ) (w : WorldData) (e : ℕ) (ctl : CtlData) : Type 0 where
   pub leaves : left_so.Leaves digest_of w.ctl ctl
   pub page : ℕ
-  pub of_number : IsOfNumber w.setup w.owners e page
+  pub of_number : IsPageOfNumber w.setup w.owners e page
   pub stay : AllButOneStay page w.ctl ctl
   pub tables : (level : ℕ) → level < 3 → page_bytes ctl.mirror (table_number w.setup.tables e level) ≡ page_bytes w.ctl.mirror (table_number w.setup.tables e level)
 
@@ -103,8 +107,8 @@ own_access digest_of w e page ctl k there leaves own stay =
 
 module _ (digest_of : List ℕ → List ℕ) (w : WorldData) (k : Kept digest_of w) (none : w.collision ≡ None) (hart e : ℕ) (there : e < length w.enclaves)
     (runs : number_under_way (hart_line w hart) (under_at w.under hart) ≡ Some e) (waited : isnt_waiting (under_at w.under hart) ≡ true) (ctl : CtlData) (access : AfterAccess digest_of w e ctl) (r : Enclave) (n : Number) (s' : Monitor)
-    (becomes : NumberBecomes (state_of w) s' e n) (live : n.live ≡ ((state_of w).number e).live) (image : n.image ≡ ((state_of w).number e).image) (pages : n.pages ≡ ((state_of w).number e).pages)
-    (agrees : RecordAgrees r n) (stands : EnclaveStands w.setup (page_bytes ctl.mirror) w.owners e r n) where
+    (becomes : NumberBecomes (state_of w) s' e n) (was_live : ((state_of w).number e).live ≡ true) (live : n.live ≡ true) (own_pages : n.pages ≡ ((state_of w).number e).pages) (keeps : KeepsPages (enclave_at w.enclaves e) r)
+    (agrees : RecordAgrees r n) (pages_now : PagesAre w.setup (state_of w).number r n) (stands : EnclaveStands w.setup (page_bytes ctl.mirror) w.owners e r n) where
   -- the run's event keeps what a world keeps, where what is so far of its own line stands
   pub run_moved : (under : List Under) (answered : List ℕ) (history : HistoryData) (u : Under) (count : ℕ) → LineMoves w hart under answered history s' u count
       → LineUnderWay w.setup (page_bytes ctl.mirror) (enclave_at (with_enclave w.enclaves e r)) s'.number hart (slice_get (script_of w.setup hart) count) u
@@ -114,12 +118,12 @@ module _ (digest_of : List ℕ → List ℕ) (w : WorldData) (k : Kept digest_of
       → Kept digest_of (with_parts w ctl w.owners (with_enclave w.enclaves e r) tlbs w.fences under answered history)
   run_moved under answered history u count line own_line own_number own_put tlbs own_translates =
       number_row digest_of w k e (subst (λ m. e < m) k.sizes.numbers there) none hart runs waited ctl access.leaves access.page access.of_number access.stay
-      (with_enclave w.enclaves e r) r (changed_set free_enclave w.enclaves e r there) s' n becomes under answered history u count line agrees stands
-      (λ own is now_live k_th few unattacked. access.leaves.still_written _ (k.stands.attacks.live own e (subst (λ ps. Contains ps own) pages is) (sym live ∙ now_live) k_th few unattacked))
+      (with_enclave w.enclaves e r) r (changed_set free_enclave w.enclaves e r there) s' n becomes under answered history u count line agrees pages_now own_pages stands
+      (λ own is made k_th few unattacked. access.leaves.still_written _ (k.stands.attacks.made own e (subst (λ kinds. Contains (numbers_of kinds) own) keeps.pages is) (live_made ((state_of w).number e) was_live) k_th few unattacked))
       (λ own put. absurd (own_put own put)) own_line own_number
       (record {
-        keeps = λ was. record { live = live ∙ was; image = image; pages = pages };
+        keeps = λ was. record { live = live; image = keeps.image; pages = keeps.pages };
         tables = λ level was low. access.tables level low;
-        made = λ was now_live. absurd (false≢true (sym was ∙ sym live ∙ now_live));
+        made = λ was now_live. absurd (false≢true (sym was ∙ was_live));
       })
       tlbs own_translates

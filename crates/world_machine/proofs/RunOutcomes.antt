@@ -17,20 +17,21 @@ use Rattle.world_machine.specs.declared.under.Under.TheVariants.{Running}
 use Rattle.world_machine.specs.Answering.{decided}
 use Rattle.world_machine.specs.BytesAgree.{PageAgrees}
 use Rattle.world_machine.specs.Pages.{numbers_of}
-use Rattle.world_machine.specs.RecordsAgree.{RecordAgrees}
 use Rattle.world_machine.specs.Running.{RunNow, faults}
 use Rattle.world_machine.specs.Standing.{IsAttackedPlace, Kept, state_of}
 use Rattle.world_machine.specs.Worlds.{WorldData, hart_line, under_at}
-use Rattle.world_machine.proofs.Licences.{by_word, collision_of, lies_on_path, own_concerned, table_concerned, word_is_attacked}
+use Rattle.world_machine.proofs.Licences.{by_word, collision_of, lies_on_path, table_concerned, word_is_attacked}
 use Rattle.world_machine.proofs.NumberRows.{table_guard}
 use Rattle.world_machine.proofs.RowKept.{collision_kept}
 use Rattle.world_machine.proofs.RunAccesses.{read_kept}
 use Rattle.world_machine.proofs.RunMoves.{run_line}
-use Rattle.world_machine.proofs.RunRows.{alone_so, faulted_kept}
+use Rattle.world_machine.proofs.RunRows.{alone_so, faulted_kept, pages}
 use Rattle.world_machine.proofs.TranslationFrames.{live_there}
+use Rattle.world_machine.proofs.LiveEnclaves.{live_made}
+use Rattle.world_machine.proofs.RecordPages.{held_concerned}
 
 -- a run concerns the pages of its number
-concerned_by : (setup : Rattle.pl_history.specs.declared.setup.SetupParts.SetupParts) (s : Monitor) (first : Bool) (e : EncNo) (budget : ℕ) (place : Place)
+pub concerned_by : (setup : Rattle.pl_history.specs.declared.setup.SetupParts.SetupParts) (s : Monitor) (first : Bool) (e : EncNo) (budget : ℕ) (place : Place)
     → LiesOnPath (number_pages setup s e.0) place → LiesOnPath (pages_concerned setup s (run_line first e budget)) place
 concerned_by setup s true e budget place k = k
 concerned_by setup s false e budget place k = k
@@ -55,9 +56,6 @@ module _ (digest_of : List ℕ → List ℕ) (room_stays : RoomStays) (w : World
   abbrev left : WorldData
   left = record w { ctl = ctl }
 
-  agrees : RecordAgrees r (s.number e.0)
-  agrees = k.stands.records e.0
-
   pub left_kept : BothStay w.ctl ctl → Kept digest_of left
   left_kept stay = read_kept digest_of room_stays w k none hart below first e budget count micro here under there ctl leaves stay
 
@@ -67,17 +65,14 @@ module _ (digest_of : List ℕ → List ℕ) (room_stays : RoomStays) (w : World
   n_live : (s.number e.0).live ≡ true
   n_live = (alone_so digest_of room_stays w k none hart below first e budget count micro here under there).n_live
 
-  own_number : Contains (numbers_of r.pages) page → Contains (s.number e.0).pages page
-  own_number own = subst (λ pages. Contains pages page) (sym agrees.pages) own
-
   -- the page agrees but where it is attacked, and the run concerns it
   page_agrees : IsOfRun w e.0 page → Kept digest_of left → PageAgrees ctl.off_chip ctl.mirror s.attacks page
-  page_agrees (inl own) kept = kept.stands.attacks.live page e.0 (own_number own) n_live
+  page_agrees (inl own) kept = kept.stands.attacks.made page e.0 own (live_made (s.number e.0) n_live)
   page_agrees (inr (level, low, is)) kept =
       subst (PageAgrees ctl.off_chip ctl.mirror s.attacks) (sym is) (kept.stands.attacks.guarded (table_number w.setup.tables e.0 level) (table_guard digest_of w k e.0 level (live_there digest_of w k e.0 n_live)))
 
   page_concerned : IsOfRun w e.0 page → Contains (number_pages w.setup s e.0) page
-  page_concerned (inl own) = own_concerned w.setup s e.0 page (own_number own)
+  page_concerned (inl own) = held_concerned w.setup s e.0 r (pages digest_of room_stays w k none hart below first e budget count micro here under there) page own
   page_concerned (inr (level, low, is)) = subst (Contains (number_pages w.setup s e.0)) (sym is) (table_concerned w.setup s e.0 level low)
 
   -- a place of the path that isn't as it was written was attacked

@@ -10,18 +10,16 @@ use Rattle.mem_ctl.specs.Laws.{ReadsTell, WordIsRead}
 use Rattle.mem_ctl.specs.Writes.{word_at}
 use Rattle.mon_enclave.specs.declared.enclave.Enclave.{Enclave}
 use Rattle.mon_enclave.specs.Records.{enclave_at}
-use Rattle.mon_owner.specs.declared.owners.Owner.TheVariants as owner_is
 use Rattle.rv_hart.specs.declared.walks.Micro.{Micro}
 use Rattle.pl_history.specs.Monitor.{Monitor}
 use Rattle.world_attack.specs.Room.{RoomStays}
 use Rattle.world_machine.specs.declared.under.Under.TheVariants.{Running}
 use Rattle.world_machine.specs.Answering.{decided}
-use Rattle.world_machine.specs.EnclavesAgree.{IsOwn}
 use Rattle.world_machine.specs.Pages.{numbers_of}
 use Rattle.world_machine.specs.Running.{RunNow, faults}
 use Rattle.world_machine.specs.Standing.{Kept, state_of}
 use Rattle.world_machine.specs.Worlds.{WorldData, hart_line, under_at}
-use Rattle.world_machine.proofs.NumberRows.{owned_within}
+use Rattle.world_machine.proofs.NumberRows.{held_inside}
 use Rattle.world_machine.proofs.RunAccesses.{read_kept}
 use Rattle.world_machine.proofs.RunMoves.{run_line}
 use Rattle.world_machine.proofs.RunOutcomes.{IsOfRun, outcome_kept}
@@ -52,8 +50,8 @@ module _ (digest_of : List ℕ → List ℕ) (room_stays : RoomStays) (reads : R
 
   page_inside : IsOfRun w e.0 page → page < 64 * w.ctl.zones
   page_inside (inl own) =
-      owned_within digest_of w k page (owner_is.Enclave (record { 0 = e.0 }))
-      (All-contains (IsOwn w.owners e.0) (numbers_of r.pages) page (standing digest_of room_stays w k none hart below first e budget count micro here under there).owned own)
+      All-contains (λ p. p < 64 * w.ctl.zones) (numbers_of r.pages) page
+      (held_inside digest_of w k e.0 r.parent r.pages (standing digest_of room_stays w k none hart below first e budget count micro here under there).held.owned) own
   page_inside (inr (level, low, is)) = subst (λ p. p < 64 * w.ctl.zones) (sym is) (number_table_inside digest_of w k e.0 level (subst (λ size. e.0 < size) k.sizes.numbers there))
 
   pub told : Accessed digest_of (word_places page (offset / 64)) (WordIsRead page offset w.ctl ctl) w.ctl call.outcome ctl

@@ -1,5 +1,5 @@
 -- An access of a run by way of its translation: a word of the number's tables is read and learned, or the access is made in the page that is
--- located, or there is none.
+-- reached, or there is none.
 use Rattle.std.proofs.Common.{◌≡◌, ℕ, ◌+◌, ◌*◌, ◌<◌, ◌≤◌, Bool, true, List, length, Option, Some, None, option_map, refl, sym, ap, ◌∙◌, subst, arith, inr}
 use Rattle.byteorder.specs.Endian.{little_number}
 use Rattle.pl_base.specs.Bytes.{bytes_at}
@@ -27,21 +27,22 @@ use Rattle.mon_host.proofs.SpaceLemmas.{word_of_page}
 use Rattle.mon_tables.specs.Tables.{table_number}
 use Rattle.world_attack.specs.Room.{RoomStays}
 use Rattle.world_machine.specs.declared.under.Under.TheVariants.{Running}
+use Rattle.world_machine.specs.Accesses.{HasAcknowledged}
 use Rattle.world_machine.specs.Making.{image_of}
-use Rattle.world_machine.specs.Pages.{located, numbers_of}
+use Rattle.world_machine.specs.Pages.{reached}
 use Rattle.world_machine.specs.Running.{RunNow, faults, run_learns, run_request, run_translates}
 use Rattle.world_machine.specs.Standing.{Kept, state_of}
 use Rattle.world_machine.specs.Translating.{number_view, offset_at, page_at, reads_table, translated}
 use Rattle.world_machine.specs.TranslationsAgree.{IsFresh, WalkStands}
 use Rattle.world_machine.specs.Worlds.{Event, WorldData, hart_line, tlb_at, under_at, with_tlb}
-use Rattle.world_machine.proofs.NumberTranslations.{asks_table, located_at, located_none}
+use Rattle.world_machine.proofs.NumberTranslations.{asks_table, reached_at, reached_none}
 use Rattle.world_machine.proofs.RunMoves.{run_line}
 use Rattle.world_machine.proofs.RunOutcomes.{IsOfRun}
 use Rattle.world_machine.proofs.RunReads.{read_event}
 use Rattle.world_machine.proofs.RunRows.{alone_so}
 use Rattle.world_machine.proofs.TablePages.{IsWordOf}
 use Rattle.world_machine.proofs.TranslationFrames.{live_there, number_table_inside}
-use Rattle.world_machine.proofs.RunLearns.{IsInstructionWalk, learned_kept, walk_stands}
+use Rattle.world_machine.proofs.RunLearns.{IsInstructionWalk, acknowledged, learned_kept, walk_stands}
 
 module _ (digest_of : List ℕ → List ℕ) (room_stays : RoomStays) (reads : ReadsTell digest_of) (w : WorldData) (k : Kept digest_of w) (none : w.collision ≡ None) (hart : ℕ)
     (below : hart < w.setup.harts) (first : Bool) (e : EncNo) (budget count : ℕ) (on : Walk → Micro) (walk : Walk) (here : hart_line w hart ≡ Some (run_line first e budget))
@@ -65,7 +66,10 @@ module _ (digest_of : List ℕ → List ℕ) (room_stays : RoomStays) (reads : R
   live : ((state_of w).number e.0).live ≡ true
   live = (alone_so digest_of room_stays w k none hart below first e budget count (on walk) here under there).n_live
 
-  stands : WalkStands w.ctl (IsFresh w.setup (state_of w) w.fences hart) view address walk
+  acknowledged_here : HasAcknowledged w hart e.0
+  acknowledged_here = acknowledged digest_of room_stays w k none hart below first e budget count on walk here under there live va access to
+
+  stands : WalkStands w.ctl (IsFresh w.setup (enclave_at w.enclaves) (state_of w) w.fences hart) view address walk
   stands = walk_stands digest_of room_stays w k none hart below first e budget count on walk here under there live va access to
 
   module _ (pa : Pa) (level : ℕ) (asks : sought walk address access entries view ≡ Table pa level) where
@@ -76,7 +80,7 @@ module _ (digest_of : List ℕ → List ℕ) (room_stays : RoomStays) (reads : R
     offset = offset_at pa
 
     at_table : (level < 3) × IsWordOf (table_number w.setup.tables e.0 level) pa
-    at_table = asks_table digest_of w k e.0 live hart address access walk stands pa level asks
+    at_table = asks_table digest_of w k e.0 live hart acknowledged_here address access walk stands pa level asks
 
     of_run : IsOfRun w e.0 page
     of_run = inr (level, at_table.0, at_table.1.page_is)
@@ -107,12 +111,12 @@ module _ (digest_of : List ℕ → List ℕ) (room_stays : RoomStays) (reads : R
         read_event digest_of room_stays reads w k none hart below first e budget count (on walk) here under there positions page offset at_table.1.inside at_table.1.aligned of_run
         learns learns_kept
 
-  module _ (reaches : Option ℕ → Event) (reached : (o : Option ℕ) → located access (image_of w.setup r.image).pages (numbers_of r.pages) va ≡ o → Kept digest_of (reaches o).world) where
+  module _ (reaches : Option ℕ → Event) (reaches_so : (o : Option ℕ) → reached access (image_of w.setup r.image).pages r.pages va ≡ o → Kept digest_of (reaches o).world) where
     by_sought : (x : Sought) → sought walk address access entries view ≡ x
         → Kept digest_of (translated x (reads_table digest_of w (run_request w run va access) positions walk (run_learns run on va access) (faults run r)) (λ pa. reaches (option_map page_at pa))).world
     by_sought (Table pa level) asks = table_kept pa level asks
-    by_sought (At pa) asks = reached (Some (page_at pa)) (located_at digest_of w k e.0 live hart address access walk stands pa asks)
-    by_sought PageFault asks = reached None (located_none digest_of w k e.0 live hart address access walk stands asks)
+    by_sought (At pa) asks = reaches_so (Some (page_at pa)) (reached_at digest_of w k e.0 live hart acknowledged_here address access walk stands pa asks)
+    by_sought PageFault asks = reaches_so None (reached_none digest_of w k e.0 live hart acknowledged_here address access walk stands asks)
 
     pub translates_kept : Kept digest_of (run_translates digest_of w run r positions on walk va access reaches).world
     translates_kept = by_sought (sought walk address access entries view) refl

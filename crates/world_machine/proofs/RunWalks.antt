@@ -41,7 +41,7 @@ module _ (digest_of : List ℕ → List ℕ) (room_stays : RoomStays) (w : World
   r = enclave_at w.enclaves e.0
 
   abbrev Fresh : TlbEntry → Type 0
-  Fresh = IsFresh w.setup s w.fences hart
+  Fresh = IsFresh w.setup (enclave_at w.enclaves) s w.fences hart
 
   -- the walk of the run's instruction
   pub walk_now : WalkingStands w.ctl Fresh (walking_of w.setup.tables e.0 r micro)

@@ -48,8 +48,8 @@ runs_alone setup memory owners e r n hart budget count micro s bytes agrees runn
       image_is = image_found setup r.image s.image s.image_is;
       same_image = agrees.image;
       n_live = n_live;
-      live = live_of setup memory owners e r n s bytes n_live (status_on r.state s.now.status running.state s.status);
-      counted = record { sent = agrees.sent; parent = agrees.parent ∙ ap parent_of s.parent; retired = running.retired };
+      live = live_of setup memory owners e r n s bytes n_live (status_on r.state s.state.now.status running.state s.state.status);
+      counted = record { sent = agrees.sent; retired = running.retired };
     }
 
 -- ---- an instruction retires, and the run goes on
@@ -66,7 +66,6 @@ records_retired image before after r now n count is_on counted retires agrees =
       live = subst (λ st. LiveAgrees st n.live) (sym state) agrees.live;
       hart = agrees.hart ∙ sym (ap (λ (x : Enclave). x.hart.0) retires.kept);
       image = agrees.image ∙ sym (ap (λ (x : Enclave). x.image) retires.kept);
-      pages = agrees.pages ∙ sym (ap (λ (x : Enclave). numbers_of x.pages) retires.kept);
       given = agrees.given ∙ sym (ap (λ (x : Enclave). x.given) retires.kept);
       parent = agrees.parent ∙ sym (ap (λ (x : Enclave). parent_of x.parent) retires.kept);
       sent = agrees.sent ∙ sym (ap (λ (x : Enclave). x.sent) retires.kept);
@@ -131,7 +130,6 @@ records_left r n count why retired n_live agrees = record {
   live = left_live why n.live n_live;
   hart = agrees.hart;
   image = agrees.image;
-  pages = agrees.pages;
   given = agrees.given;
   parent = agrees.parent;
   sent = agrees.sent;
@@ -147,7 +145,6 @@ records_ended r n count code retired n_live agrees = record {
   live = n_live;
   hart = agrees.hart;
   image = agrees.image;
-  pages = agrees.pages;
   given = agrees.given;
   parent = agrees.parent;
   sent = agrees.sent;

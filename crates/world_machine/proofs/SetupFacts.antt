@@ -1,10 +1,9 @@
 -- What a setup's rules say of a line of a script, of an image, and of the tables of enclave numbers.
-use Rattle.std.proofs.Common.{◌≡◌, ℕ, zero, suc, ◌<◌, ◌≤◌, ◌%◌, eqb, ltb, leb, Bool, true, false, ◌&&◌, List, [], ◌∷◌, length, get_or, slice_get, unwrap_or, Option, Some, None, refl, sym, ap, ◌∙◌, arith, inl, inr, ◌≢◌}
+use Rattle.std.proofs.Common.{◌≡◌, ℕ, ◌<◌, ◌≤◌, ◌%◌, eqb, ltb, leb, true, false, ◌&&◌, List, [], length, get_or, slice_get, unwrap_or, Option, Some, None, refl, sym, ap, ◌∙◌, arith, inl, inr, ◌≢◌}
 use Rattle.std.specs.List.{All, list_all}
 use Rattle.std.specs.Prelude.{IsTrue}
 use Rattle.std.proofs.lemmas.Bool.{and_parts, cases_Bool, eqb-true, leb-true, ltb-false, ltb-true}
 use Rattle.std.proofs.lemmas.Option.{slice_get-get_or, slice_get_past}
-use Rattle.pl_base.specs.declared.number.EncNo.{EncNo}
 use Rattle.pl_base.specs.Perms.{are_page_perms}
 use Rattle.mon_enclave.specs.declared.enclave.Enclave.{Enclave}
 use Rattle.mon_enclave.specs.Records.{enclave_at, free_enclave}
@@ -13,30 +12,12 @@ use Rattle.mon_image.specs.declared.page.ImagePage.{ImagePage}
 use Rattle.mon_tables.specs.Tables.{table_number}
 use Rattle.pl_base.specs.States.{is_free}
 use Rattle.pl_history.specs.declared.line.Line.{Line}
-use Rattle.pl_history.specs.declared.line.Line.TheVariants.{Create}
 use Rattle.pl_history.specs.declared.setup.SetupParts.{SetupParts}
 use Rattle.pl_history.specs.Monitor.{script_of}
-use Rattle.pl_history.specs.Rules.{is_attack_line, is_line, IsSetup, guarded_of, is_entry, is_image, is_page, is_within, names_known, pages_of}
-
-pub each_holds : {A : Type 0} (test : A → Bool) (xs : List A) (i : ℕ) (x : A) → list_all test xs ≡ true → slice_get xs i ≡ Some x → test x ≡ true
-each_holds test [] i x all here = cc
-each_holds test (y ∷ ys) zero x all here = (let e : y ≡ x = cc in ap test (sym e) ∙ (and_parts (test y) (list_all test ys) all).0)
-each_holds test (y ∷ ys) (suc i) x all here = each_holds test ys i x (and_parts (test y) (list_all test ys) all).1 here
+use Rattle.pl_history.specs.Rules.{is_attack_line, is_line, IsSetup, guarded_of, is_entry, is_image, is_page, is_within, pages_of}
+pub use Rattle.pl_history.proofs.ScriptLines.{each_holds, line_names}
 
 -- ---- lines
-
--- a line names numbers and images that there are
-names_of : (enclaves images : ℕ) (script : Option (List Line)) (at : ℕ) (line : Line)
-    → ((lines : List Line) → script ≡ Some lines → list_all (names_known enclaves images) lines ≡ true) → slice_get (unwrap_or script []) at ≡ Some line
-    → names_known enclaves images line ≡ true
-names_of enclaves images None at line all here = cc
-names_of enclaves images (Some lines) at line all here = each_holds (names_known enclaves images) lines at line (all lines refl) here
-
-pub line_names : (setup : SetupParts) (hart at : ℕ) (line : Line) → IsSetup setup → slice_get (script_of setup hart) at ≡ Some line
-    → names_known setup.enclaves (length setup.images) line ≡ true
-line_names setup hart at line rules here =
-    names_of setup.enclaves (length setup.images) (slice_get setup.lines hart) at line
-    (λ lines is. each_holds (list_all (names_known setup.enclaves (length setup.images))) setup.lines hart lines rules.names is) here
 
 -- a line has the form of one
 form_of : (script : Option (List Line)) (at : ℕ) (line : Line) → ((lines : List Line) → script ≡ Some lines → list_all is_line lines ≡ true)
@@ -55,13 +36,6 @@ pub record CreateNames (setup : SetupParts) (e number : ℕ) : Type 0 where
   pub image : Image
   pub image_is : slice_get setup.images number ≡ Some image
 
-pub create_names : (setup : SetupParts) (hart at number : ℕ) (e : EncNo) (pages : List ℕ) → IsSetup setup → slice_get (script_of setup hart) at ≡ Some (Create e number pages)
-    → CreateNames setup e.0 number
-create_names setup hart at number e pages rules here =
-    let both = and_parts (ltb e.0 setup.enclaves) (ltb number (length setup.images)) (line_names setup hart at (Create e number pages) rules here) in
-    let few : number < length setup.images = ltb-true number (length setup.images) both.1 in
-    record { there = ltb-true e.0 setup.enclaves both.0; image = _; image_is = slice_get-get_or setup.images number (record { entry = 0; pages = [] }) few }
-
 -- ---- images
 
 module _ (setup : SetupParts) (number : ℕ) (image : Image) (rules : IsSetup setup) (here : slice_get setup.images number ≡ Some image) where
@@ -74,11 +48,17 @@ module _ (setup : SetupParts) (number : ℕ) (image : Image) (rules : IsSetup se
       let entry = (and_parts (is_entry (length image.pages) image.entry) (is_within 1 256 (length image.pages) && list_all is_page image.pages) image_holds).0 in
       eqb-true (image.entry % 4) 0 (and_parts (eqb (image.entry % 4) 0) _ entry).0
 
-  pub image_few : length image.pages ≤ 256
-  image_few =
+  -- it has pages, and not too many
+  image_count : is_within 1 256 (length image.pages) ≡ true
+  image_count =
       let rest = (and_parts (is_entry (length image.pages) image.entry) (is_within 1 256 (length image.pages) && list_all is_page image.pages) image_holds).1 in
-      let count = (and_parts (is_within 1 256 (length image.pages)) (list_all is_page image.pages) rest).0 in
-      leb-true (length image.pages) 256 (and_parts (leb 1 (length image.pages)) (leb (length image.pages) 256) count).1
+      (and_parts (is_within 1 256 (length image.pages)) (list_all is_page image.pages) rest).0
+
+  pub image_some : 1 ≤ length image.pages
+  image_some = leb-true 1 (length image.pages) (and_parts (leb 1 (length image.pages)) (leb (length image.pages) 256) image_count).0
+
+  pub image_few : length image.pages ≤ 256
+  image_few = leb-true (length image.pages) 256 (and_parts (leb 1 (length image.pages)) (leb (length image.pages) 256) image_count).1
 
   -- a page has 4,096 bytes
   pub page_size : (at : ℕ) (page : ImagePage) → slice_get image.pages at ≡ Some page → length page.bytes ≡ 4096

@@ -1,5 +1,5 @@
 -- Each step keeps the setup.
-use Rattle.std.proofs.Common.{◌≡◌, ℕ, ◌+◌, ◌%◌, ◌==◌, Bool, true, false, if◌then◌else◌, List, Option, Some, None, is_some, refl, ap, ◌∙◌}
+use Rattle.std.proofs.Common.{◌≡◌, ℕ, ◌+◌, ◌%◌, ◌==◌, Bool, true, false, if◌then◌else◌, List, [], ◌∷◌, Option, Some, None, is_some, refl, ap, ◌∙◌}
 use Rattle.std.specs.Prelude.{option_map, Result, Ok, Err}
 use Rattle.pl_base.specs.declared.access.Kind.{Kind}
 use Rattle.pl_base.specs.declared.access.Kind.TheVariants as kind
@@ -40,19 +40,21 @@ use Rattle.pl_base.specs.declared.refusal.No.TheVariants as refused
 use Rattle.pl_history.specs.declared.line.AttackLine.{AttackLine}
 use Rattle.pl_history.specs.declared.line.AttackLine.TheVariants as attack
 use Rattle.pl_history.specs.declared.line.Line.{Line}
-use Rattle.pl_history.specs.declared.line.Line.TheVariants.{Load as LoadLine, Store as StoreLine, Map, Unmap, Create, Run, Resume, Send, Take, Destroy, After as AfterLine}
+use Rattle.pl_history.specs.declared.line.Line.TheVariants.{Load as LoadLine, Store as StoreLine, Map, Unmap, Create, Shadow, Fork, Grant, Run, Resume, Send, Take, Destroy, Drop, After as AfterLine}
 use Rattle.pl_history.specs.declared.setup.SetupParts.{SetupParts}
 use Rattle.pl_history.specs.Protection.{pmp_of}
 use Rattle.world_machine.specs.declared.under.Under.{Under}
-use Rattle.world_machine.specs.declared.under.Under.TheVariants.{Idle, Seeking, Removing, Destroying, Putting, Running}
+use Rattle.mon_shadow.specs.Breaking.{PageBroken, page_broken}
+use Rattle.world_machine.specs.declared.under.Under.TheVariants.{Idle, Seeking, Removing, Destroying, Putting, Running, Breaking}
 use Rattle.world_machine.specs.Acknowledging.{acknowledged, owed}
 use Rattle.world_machine.specs.Answering.{accesses, answers, decided, goes_on, quiet}
 use Rattle.world_machine.specs.GivingBack.{destroys_unless, ends_destroy}
 use Rattle.world_machine.specs.HostAccessing.{WordAccess, accesses_host, begins_access, host_faults, host_learns, host_request, kind_of, loads, made, reaches_host, stores}
 use Rattle.world_machine.specs.HostMapping.{begins_unmap, ends_unmap, lacked_by, mapped, maps, unmapped}
-use Rattle.world_machine.specs.Making.{begins_unless, image_of}
+use Rattle.world_machine.specs.Making.{answers_by, begins_unless, image_of, put_next}
+use Rattle.world_machine.specs.Pages.{to_break}
 use Rattle.world_machine.specs.Pages.{part_of_word, word_offset}
-use Rattle.world_machine.specs.Running.{RunNow, acts, calls, faults, fetched_in, loads_in, retired_with, reaches, receives, retires, run_event, run_learns, run_request, run_translates, stores_in}
+use Rattle.world_machine.specs.Running.{RunNow, acts, breaks_done, breaks_or_leaves, breaks_page, calls, faults, faults_by, fetched_in, loads_in, page_faults, perms_at, restarts, retired_with, reaches, receives, retires, run_event, run_learns, run_request, run_translates, stores_in}
 use Rattle.world_machine.specs.Steps.{Step, StepOf, Turn, ack_turn, actor_turn, attacker_turn, due, hart_turn, moves, rests, stepped, turn_of, waiting_turn, world_after}
 use Rattle.world_machine.specs.Talking.{changes_unless}
 use Rattle.world_machine.specs.Translating.{Request, offset_at, page_at, reads_table, sought_in, translated}
@@ -109,6 +111,10 @@ acknowledged_setup w hart requester (Some fence) = refl
 begins_setup : (o : Option No) (w : WorldData) (hart : ℕ) (u : Under) → KeepsSetup w.setup (begins_unless o w hart u)
 begins_setup None w hart u = refl
 begins_setup (Some cause) w hart u = refl
+
+answers_setup : (o : Option No) (w : WorldData) (hart : ℕ) → KeepsSetup w.setup (answers_by o w hart)
+answers_setup None w hart = refl
+answers_setup (Some cause) w hart = refl
 
 destroys_setup : (o : Option No) (w : WorldData) (hart : ℕ) (e : EncNo) → KeepsSetup w.setup (destroys_unless o w hart e)
 destroys_setup None w hart e = refl
@@ -179,8 +185,27 @@ module _ (digest_of : List ℕ → List ℕ) where
       let left : WorldData = record w { ctl = event.step.after.ctl; fences = event.rest } in
       decided_setup w.setup left (unmapped hart va left) (host_faults hart left) event.step.outcome refl (unmapped_setup hart va left) (λ place. refl)
 
+  -- a page fault of a run, or the break of a page
+  breaks_setup : (w : WorldData) (run : RunNow) (r : Enclave) (positions : List ℕ) (index : ℕ) → KeepsSetup w.setup (breaks_page digest_of w run r positions index).world
+  breaks_setup w run r positions index =
+      let broken : PageBroken = page_broken digest_of w.setup.tables run.hart (record { 0 = run.e }) index (perms_at w.setup r index) w.enclaves w.fences (going w.ctl positions) in
+      let left : WorldData = record w { ctl = broken.step.after.ctl; enclaves = broken.enclaves; fences = broken.fences } in
+      decided_setup w.setup left (λ done. breaks_done left run index) (faults run r left) broken.step.outcome refl (λ done. refl) (λ place. refl)
+
+  spares_setup : (w : WorldData) (run : RunNow) (r : Enclave) (positions : List ℕ) (index : ℕ) (spares : List ℕ) → KeepsSetup w.setup (breaks_or_leaves digest_of w run r positions index spares).world
+  spares_setup w run r positions index [] = refl
+  spares_setup w run r positions index (spare ∷ spares) = breaks_setup w run r positions index
+
+  faults_setup : (w : WorldData) (run : RunNow) (r : Enclave) (positions : List ℕ) (access : Kind) (address : ℕ) (o : Option ℕ) → KeepsSetup w.setup (faults_by digest_of w run r positions access address o).world
+  faults_setup w run r positions access address None = refl
+  faults_setup w run r positions access address (Some index) = spares_setup w run r positions index r.spares
+
+  page_setup : (w : WorldData) (run : RunNow) (r : Enclave) (positions : List ℕ) (access : Kind) (address : ℕ) → KeepsSetup w.setup (page_faults digest_of w run r positions access address).world
+  page_setup w run r positions access address =
+      faults_setup w run r positions access address (to_break access (image_of w.setup r.image).pages r.pages address)
+
   fetch_setup : (w : WorldData) (run : RunNow) (r : Enclave) (positions : List ℕ) (o : Option ℕ) → KeepsSetup w.setup (fetched_in digest_of w run r positions o).world
-  fetch_setup w run r positions None = refl
+  fetch_setup w run r positions None = page_setup w run r positions kind.Fetch r.context.pc
   fetch_setup w run r positions (Some page) =
       accesses_setup w (read_word_of digest_of page (word_offset r.context.pc) (going w.ctl positions))
       (λ left eight. acts left run r (part_of_word eight r.context.pc 4) (act_of r.context (part_of_word eight r.context.pc 4))) (faults run r)
@@ -188,7 +213,7 @@ module _ (digest_of : List ℕ → List ℕ) where
 
   load_setup : (w : WorldData) (run : RunNow) (r : Enclave) (positions : List ℕ) (address width : ℕ) (is_signed : Bool) (rd : ℕ) (o : Option ℕ)
       → KeepsSetup w.setup (loads_in digest_of w run r positions address width is_signed rd o).world
-  load_setup w run r positions address width is_signed rd None = refl
+  load_setup w run r positions address width is_signed rd None = page_setup w run r positions kind.Load address
   load_setup w run r positions address width is_signed rd (Some page) =
       accesses_setup w (read_word_of digest_of page (word_offset address) (going w.ctl positions))
       (λ left eight. retires left run (retired_with r (loaded r.context rd width is_signed (part_of_word eight address width)))) (faults run r)
@@ -196,7 +221,7 @@ module _ (digest_of : List ℕ → List ℕ) where
 
   store_setup : (w : WorldData) (run : RunNow) (r : Enclave) (positions : List ℕ) (address width value : ℕ) (o : Option ℕ)
       → KeepsSetup w.setup (stores_in digest_of w run r positions address width value o).world
-  store_setup w run r positions address width value None = refl
+  store_setup w run r positions address width value None = page_setup w run r positions kind.Store address
   store_setup w run r positions address width value (Some page) =
       accesses_setup w (write_part_of digest_of page (address % 4096) width value (going w.ctl positions))
       (λ left done. retires left run (retired_with r (advanced r.context))) (faults run r)
@@ -223,7 +248,7 @@ module _ (digest_of : List ℕ → List ℕ) where
   run_setup w run r positions (Fetching walk) =
       translates_setup w run r positions Fetching walk r.context.pc kind.Fetch (fetched_in digest_of w run r positions) (fetch_setup w run r positions)
   run_setup w run r positions (Reaching word walk) = reach_setup w run r positions word walk (act_of r.context word)
-  run_setup w run r positions (Faulting va access) = refl
+  run_setup w run r positions (Faulting va access) = page_setup w run r positions access va
 
   abbrev TurnKeepsSetup : SetupParts → Turn → Type 0
   TurnKeepsSetup setup (moves event) = KeepsSetup setup event.world
@@ -241,6 +266,14 @@ module _ (digest_of : List ℕ → List ℕ) where
   ack_setup w hart None = tt
   ack_setup w hart (Some requester) = acknowledged_setup w hart requester (fence_of w.fences requester)
 
+  puts_setup : (w : WorldData) (hart : ℕ) (positions : List ℕ) (e image : ℕ) (shadow : Bool) (done : ℕ) → KeepsSetup w.setup (put_next digest_of w hart positions e image shadow done).world
+  puts_setup w hart positions e image shadow done =
+      let step : CreatePut = create_put digest_of w.setup.tables e (image_of w.setup image) shadow done w.enclaves (going w.ctl positions) in
+      let left : WorldData = record w { ctl = step.put.after.ctl; enclaves = step.enclaves } in
+      decided_setup w.setup left (λ last. if last then answers left hart answer_is.Ok else goes_on left hart (Putting (done + 1)))
+      (λ place. answers left hart (answer_is.No (refused.Fault place))) step.put.outcome refl
+      (λ last. either w.setup last (answers left hart answer_is.Ok) (goes_on left hart (Putting (done + 1))) refl refl) (λ place. refl)
+
   due_setup : (w : WorldData) (hart : ℕ) (positions : List ℕ) (line : Line) (under : Under) → TurnKeepsSetup w.setup (due digest_of w hart positions line under)
   due_setup w hart positions (LoadLine va) Idle = begins_access_setup w hart positions va loads
   due_setup w hart positions (LoadLine va) (Seeking walk) = access_setup w hart positions va loads walk
@@ -251,19 +284,22 @@ module _ (digest_of : List ℕ → List ℕ) where
   due_setup w hart positions (Unmap va) (Removing page) = ending w.setup (ends_unmap w hart page) (lacked_by w hart) refl
   due_setup w hart positions (Destroy e) Idle = destroys_setup _ _ hart e
   due_setup w hart positions (Destroy e) Destroying = ending w.setup (ends_destroy w hart e) (lacked_by w hart) refl
+  due_setup w hart positions (Drop shadow) Idle = answers_setup _ _ hart
   due_setup w hart positions (Create e image pages) Idle = begins_setup _ _ hart _
-  due_setup w hart positions (Create e image pages) (Putting done) =
-      let step : CreatePut = create_put digest_of w.setup.tables e.0 (image_of w.setup image) false done w.enclaves (going w.ctl positions) in
-      let left : WorldData = record w { ctl = step.put.after.ctl; enclaves = step.enclaves } in
-      decided_setup w.setup left (λ last. if last then answers left hart answer_is.Ok else goes_on left hart (Putting (done + 1)))
-      (λ place. answers left hart (answer_is.No (refused.Fault place))) step.put.outcome refl
-      (λ last. either w.setup last (answers left hart answer_is.Ok) (goes_on left hart (Putting (done + 1))) refl refl) (λ place. refl)
+  due_setup w hart positions (Create e image pages) (Putting done) = puts_setup w hart positions e.0 image false done
+  due_setup w hart positions (Shadow e image pages) Idle = begins_setup _ _ hart _
+  due_setup w hart positions (Shadow e image pages) (Putting done) = puts_setup w hart positions e.0 image true done
+  due_setup w hart positions (Fork shadow e pages) Idle = begins_setup _ _ hart _
+  due_setup w hart positions (Fork shadow e pages) (Putting done) = puts_setup w hart positions e.0 (enclave_at w.enclaves e.0).image false done
+  due_setup w hart positions (Grant e page) Idle = answers_setup _ _ hart
   due_setup w hart positions (Run e budget) Idle = begins_setup _ _ hart _
   due_setup w hart positions (Run e budget) (Running micro count) =
       run_setup w (record { hart = hart; e = e.0; budget = budget; count = count }) (enclave_at w.enclaves e.0) positions micro
+  due_setup w hart positions (Run e budget) (Breaking count) = ending w.setup (restarts w hart count) (lacked_by w hart) refl
   due_setup w hart positions (Resume e budget) Idle = begins_setup _ _ hart _
   due_setup w hart positions (Resume e budget) (Running micro count) =
       run_setup w (record { hart = hart; e = e.0; budget = budget; count = count }) (enclave_at w.enclaves e.0) positions micro
+  due_setup w hart positions (Resume e budget) (Breaking count) = ending w.setup (restarts w hart count) (lacked_by w hart) refl
   due_setup w hart positions (Send e word) Idle = changes_setup _ w hart e.0 _ _
   due_setup w hart positions (Take e) Idle = changes_setup _ w hart e.0 _ _
   due_setup w hart positions (AfterLine actor count) Idle = waiting w.setup _ _ _ refl

@@ -1,24 +1,21 @@
 -- What holds of an enclave stays through an instruction that retires, and where a run leaves it.
-use Rattle.std.proofs.Common.{◌≡◌, ℕ, ◌+◌, ◌%◌, ◌≤◌, true, List, ◌++◌, length, map, take, Some, slice_get, refl, ap, sym, ◌∙◌, subst, arith, length-append}
-use Rattle.std.specs.List.{All}
+use Rattle.std.proofs.Common.{◌≡◌, ℕ, ◌+◌, ◌%◌, ◌≤◌, true, List, ◌++◌, length, take, Some, slice_get, refl, ap, sym, ◌∙◌, subst, arith, length-append}
 use Rattle.std.proofs.lemmas.Bool.{false≢true}
 use Rattle.std.proofs.lemmas.List.{take-append-le, take_all}
 use Rattle.pl_base.specs.declared.state.Why.{Why}
 use Rattle.pl_base.specs.declared.state.Why.TheVariants as why_is
-use Rattle.pl_base.specs.Pages.{first_twice}
 use Rattle.pl_base.specs.States.{state_left}
 use Rattle.mem_geom.specs.Parts.{page_bytes}
 use Rattle.mon_enclave.specs.declared.enclave.Enclave.{Enclave}
 use Rattle.mon_enclave.specs.declared.enclave.PageKind.{PageKind}
-use Rattle.mon_enclave.specs.declared.enclave.PageKind.TheVariants.{Own}
 use Rattle.mon_image.specs.declared.image.Image.{Image}
+use Rattle.mon_image.specs.declared.page.ImagePage.{ImagePage}
 use Rattle.mon_owner.specs.declared.owners.Owner.{Owner}
 use Rattle.rv_alone.specs.Flat.{Flat, ended}
 use Rattle.rv_alone.specs.Alone.{alone, context_of}
 use Rattle.pl_history.specs.declared.setup.SetupParts.{SetupParts}
 use Rattle.pl_history.specs.Monitor.{Number, flat_image}
-use Rattle.pl_history.specs.Words.{sent_out}
-use Rattle.world_machine.specs.EnclavesAgree.{EnclaveStands, IsOwn, StatusStands}
+use Rattle.world_machine.specs.EnclavesAgree.{EnclaveStands, HasItsPages, StateStands, StatusStands}
 use Rattle.world_machine.specs.Pages.{flat_pages, numbers_of}
 use Rattle.world_machine.specs.Running.{retired_with}
 use Rattle.world_machine.proofs.Instructions.{Retires, flat_of}
@@ -28,55 +25,34 @@ use Rattle.world_machine.proofs.SentOut.{sent_out_by}
 
 -- ---- a record that stays with its image and its pages, and comes to a state of its image
 
--- a live record comes to this state
-pub record ComesTo (setup : SetupParts) (bytes_of : ℕ → List ℕ) (image : Image) (r : Enclave) (n : Number) (now : Flat) : Type 0 where
-  pub alone_is : alone (flat_image image) r.sent r.retired ≡ Some now
-  pub context : r.context ≡ context_of now
-  pub received : r.received ≡ now.received
-  pub out : r.out ≡ now.out
-  pub status : StatusStands r.state now.status
-  pub aligned : r.context.pc % 4 ≡ 0
-  pub taken_few : r.taken ≤ r.shown
-  pub shown_few : r.shown ≤ length r.out
-  pub shown : take r.shown r.out ≡ sent_out setup n
-  pub pages : now.pages ≡ flat_pages bytes_of image.pages (numbers_of r.pages)
-  pub live : n.live ≡ true
-
--- and keeps its image, its pages, that it wasn't forked, and its spares
+-- it keeps its image, its pages and whether it was forked
 pub record KeepsPages (r now : Enclave) : Type 0 where
   pub image : now.image ≡ r.image
   pub pages : now.pages ≡ r.pages
   pub parent : now.parent ≡ r.parent
-  pub spares : now.spares ≡ r.spares
-  pub given : now.given ≡ r.given
+
+pub keeps_all : (r : Enclave) → KeepsPages r r
+keeps_all r = record { image = refl; pages = refl; parent = refl }
 
 module _ (setup : SetupParts) (before after : ℕ → List ℕ) (owners : List Owner) (e : ℕ) (r : Enclave) (n : Number) (s : EnclaveStands setup before owners e r n) where
-  pub stands_as : (r' : Enclave) (n' : Number) (now : Flat) → KeepsPages r r' → ComesTo setup after s.image r' n' now → EnclaveStands setup after owners e r' n'
-  stands_as r' n' now kept comes = record {
+  pub stands_as : (r' : Enclave) (n' : Number) → KeepsPages r r' → StateStands setup after s.image r' n' → EnclaveStands setup after owners e r' n'
+  stands_as r' n' kept state = record {
     image = s.image;
     image_is = ap (slice_get setup.images) kept.image ∙ s.image_is;
-    count = ap (λ (ps : List PageKind). length ps) kept.pages ∙ s.count;
-    own = subst (λ (ps : List PageKind). ps ≡ map Own (numbers_of ps)) (sym kept.pages) s.own;
-    apart = ap (λ ps. first_twice (numbers_of ps)) kept.pages ∙ s.apart;
-    owned = subst (λ ps. All (IsOwn owners e) (numbers_of ps)) (sym kept.pages) s.owned;
-    parent = kept.parent ∙ s.parent;
-    spares = kept.spares ∙ s.spares;
-    given = kept.given ∙ s.given;
-    now = now;
-    alone_is = comes.alone_is;
-    context = comes.context;
-    received = comes.received;
-    out = comes.out;
-    status = comes.status;
-    aligned = comes.aligned;
-    taken_few = comes.taken_few;
-    shown_few = comes.shown_few;
-    shown = comes.shown;
-    pages = λ _. comes.pages;
-    start = λ not_live. absurd (false≢true (sym not_live ∙ comes.live));
+    held = subst (λ (kinds : List PageKind). HasItsPages owners e s.image kinds r'.parent) (sym kept.pages)
+        (subst (HasItsPages owners e s.image r.pages) (sym kept.parent) s.held);
+    state = state;
   }
 
 -- ---- an instruction that retires; the number stays as it was, until the run leaves
+
+-- it keeps its pages
+pub retired_keeps : (image : List ImagePage) (before after : ℕ → List ℕ) (r now : Enclave) → Retires image before after r now → KeepsPages r now
+retired_keeps image before after r now retires = record {
+  image = ap (λ (x : Enclave). x.image) retires.kept;
+  pages = same_pages r now retires.kept;
+  parent = ap (λ (x : Enclave). x.parent) retires.kept;
+}
 
 all_few : {taken shown words : ℕ} → taken ≤ shown → shown ≤ words → taken ≤ words
 all_few few more = omega arith
@@ -89,20 +65,20 @@ module _ (setup : SetupParts) (memory new : List ℕ) (owners : List Owner) (e :
   stands_retired now n_live retires live =
       let shown : now.shown ≡ r.shown = ap (λ (x : Enclave). x.shown) retires.kept in
       let taken : now.taken ≡ r.taken = ap (λ (x : Enclave). x.taken) retires.kept in
-      stands_as setup (page_bytes memory) (page_bytes new) owners e r n s now n (flat_of (page_bytes new) s.image.pages now)
-      (record { image = ap (λ (x : Enclave). x.image) retires.kept; pages = same_pages r now retires.kept; parent = ap (λ (x : Enclave). x.parent) retires.kept; spares = ap (λ (x : Enclave). x.spares) retires.kept; given = ap (λ (x : Enclave). x.given) retires.kept })
+      stands_as setup (page_bytes memory) (page_bytes new) owners e r n s now n (retired_keeps s.image.pages (page_bytes memory) (page_bytes new) r now retires)
       (record {
+        now = flat_of (page_bytes new) s.image.pages now;
         alone_is = live.alone_is;
         context = refl;
         received = refl;
         out = refl;
         status = on_stands now.state;
         aligned = live.aligned;
-        taken_few = subst (λ k. k ≤ now.shown) (sym taken) (subst (λ k. r.taken ≤ k) (sym shown) s.taken_few);
-        shown_few = subst (λ k. k ≤ length now.out) (sym shown) (subst (λ ws. r.shown ≤ length ws) (sym retires.grows) (few_more r.shown r.out retires.words s.shown_few));
-        shown = ap (λ k. take k now.out) shown ∙ ap (take r.shown) retires.grows ∙ take-append-le r.shown r.out retires.words s.shown_few ∙ s.shown;
-        pages = refl;
-        live = n_live;
+        taken_few = subst (λ k. k ≤ now.shown) (sym taken) (subst (λ k. r.taken ≤ k) (sym shown) s.state.taken_few);
+        shown_few = subst (λ k. k ≤ length now.out) (sym shown) (subst (λ ws. r.shown ≤ length ws) (sym retires.grows) (few_more r.shown r.out retires.words s.state.shown_few));
+        shown = ap (λ k. take k now.out) shown ∙ ap (take r.shown) retires.grows ∙ take-append-le r.shown r.out retires.words s.state.shown_few ∙ s.state.shown;
+        pages = λ made. refl;
+        start = λ not_live. absurd (false≢true (sym not_live ∙ n_live));
       })
 
 -- ---- a run leaves its enclave
@@ -117,7 +93,6 @@ left_number n count why = record n { state = state_left why; retired = n.retired
 pub counted_more : (image : Image) (before after : ℕ → List ℕ) (r now : Enclave) (n : Number) (count : ℕ) → IsCounted r n count → Retires image.pages before after r now → IsCounted now n (count + 1)
 counted_more image before after r now n count counted retires = record {
   sent = counted.sent ∙ sym (ap (λ (x : Enclave). x.sent) retires.kept);
-  parent = counted.parent;
   retired = (let more : now.retired ≡ r.retired + 1 = retires.retired in let so_far : r.retired ≡ n.retired + count = counted.retired in omega arith);
 }
 
@@ -129,8 +104,9 @@ module _ (setup : SetupParts) (memory : List ℕ) (owners : List Owner) (e : ℕ
       let n' : Number = left_number n count why in
       let image_is : slice_get setup.images n.image ≡ Some s.image = ap (slice_get setup.images) same_image ∙ s.image_is in
       let came : alone (flat_image s.image) n.sent (n.retired + count) ≡ Some now = ap (alone (flat_image s.image) n.sent) (sym retired) ∙ ap (λ words. alone (flat_image s.image) words r'.retired) sent ∙ alone_is in
-      stands_as setup (page_bytes memory) (page_bytes memory) owners e r n s r' n' now kept
+      stands_as setup (page_bytes memory) (page_bytes memory) owners e r n s r' n' kept
       (record {
+        now = now;
         alone_is = alone_is;
         context = context;
         received = received;
@@ -140,14 +116,14 @@ module _ (setup : SetupParts) (memory : List ℕ) (owners : List Owner) (e : ℕ
         taken_few = taken;
         shown_few = subst (λ k. k ≤ length r'.out) (sym shown) (omega arith);
         shown = ap (λ k. take k r'.out) shown ∙ take_all (length r'.out) r'.out (omega arith) ∙ out ∙ sym (sent_out_by setup n' s.image now image_is came);
-        pages = pages;
-        live = n_live;
+        pages = λ made. pages;
+        start = λ not_live. absurd (false≢true (sym not_live ∙ n_live));
       })
 
   -- with its image on: its budget is spent, it waits, is full, traps, or a place faults
   pub stands_left : (why : Why) → IsLive s.image memory r → IsCounted r n count → EnclaveStands setup (page_bytes memory) owners e (left_record r why) (left_number n count why)
   stands_left why live counted =
-      left_as why (left_record r why) (flat_of (page_bytes memory) s.image.pages r) (record { image = refl; pages = refl; parent = refl; spares = refl; given = refl }) (all_few s.taken_few s.shown_few) refl counted.sent counted.retired live.alone_is refl refl refl (on_stands (state_left why)) live.aligned refl
+      left_as why (left_record r why) (flat_of (page_bytes memory) s.image.pages r) (record { image = refl; pages = refl; parent = refl }) (all_few s.state.taken_few s.state.shown_few) refl counted.sent counted.retired live.alone_is refl refl refl (on_stands (state_left why)) live.aligned refl
 
   -- with its image ended
   pub stands_ended : (code before : ℕ) → IsLive s.image memory r → IsCounted r n before → count ≡ before + 1
@@ -155,7 +131,7 @@ module _ (setup : SetupParts) (memory : List ℕ) (owners : List Owner) (e : ℕ
       → EnclaveStands setup (page_bytes memory) owners e (left_record (retired_with r r.context) (why_is.Ended code)) (left_number n count (why_is.Ended code))
   stands_ended code before live counted more is =
       left_as (why_is.Ended code) (left_record (retired_with r r.context) (why_is.Ended code)) (record (flat_of (page_bytes memory) s.image.pages r) { status = ended code })
-      (record { image = refl; pages = refl; parent = refl; spares = refl; given = refl }) (all_few s.taken_few s.shown_few) refl counted.sent (one_more counted.retired) is refl refl refl tt live.aligned refl
+      (record { image = refl; pages = refl; parent = refl }) (all_few s.state.taken_few s.state.shown_few) refl counted.sent (one_more counted.retired) is refl refl refl tt live.aligned refl
     where
       one_more : r.retired ≡ n.retired + before → r.retired + 1 ≡ n.retired + count
       one_more so_far = omega arith

@@ -1,5 +1,6 @@
--- Fences and removals agree as removals and the giving back of numbers begin, are acknowledged and end.
+-- Fences and removals agree as removals, the giving back of numbers and breaks of pages begin, are acknowledged and end.
 use Rattle.std.proofs.Common.{◌≡◌, ℕ, ◌+◌, ◌<◌, List, [], ◌∷◌, ◌++◌, length, filter, not, eqb, Option, Some, None, slice_set, refl, sym, ◌∙◌, subst, length-set, inl, inr}
+use Rattle.pl_base.specs.declared.address.Vpn.{Vpn}
 use Rattle.mon_fence.specs.declared.fences.Fence.{Fence}
 use Rattle.mon_fence.specs.Fences.{acked, fence_of, posted}
 use Rattle.mon_fence.proofs.Needs.{acked_all, fence_of-set_other, fence_of-set_same, left_fits, posted_fits}
@@ -40,7 +41,7 @@ module _ (harts : ℕ) (fences : List (Option Fence)) (removals : List Removal) 
         (subst (FenceStands (fence_of fences k)) (sym (removals_by-ended_other removals hart k other)) (agree.each k)));
   }
 
-  -- a hart with a fence removes a mapping, or gives a number back, so one that does neither has none
+  -- a hart with a fence removes a mapping, or has one of a number, so one that does neither has none
   pub no_fence : IsOfHost (fence_of fences hart) → removals_by removals hart ≡ [] → fence_of fences hart ≡ None
   no_fence of_host none = by_fence (fence_of fences hart) of_host (agree.each hart)
     where
@@ -60,17 +61,20 @@ module _ (harts : ℕ) (fences : List (Option Fence)) (removals : List Removal) 
         (λ k other. subst (λ f. FenceStands f (removals_by removals k)) (sym (fence_of-set_other fences requester k _ other)) (agree.each k));
   }
 
-  -- a hart that removes nothing begins to give a number back
-  pub fences_giving : (e : ℕ) → removals_by removals hart ≡ [] → FencesStand harts (posted fences hart (record { 0 = e + 1 }) None) removals
-  fences_giving e none = record {
+  -- a hart that removes nothing begins to give a number back, or broke a page of it
+  pub fences_posted : (e : ℕ) (vpn : Option Vpn) → removals_by removals hart ≡ [] → FencesStand harts (posted fences hart (record { 0 = e + 1 }) vpn) removals
+  fences_posted e vpn none = record {
     size = length-set fences hart _ ∙ agree.size;
-    needs_others = posted_fits fences hart (record { 0 = e + 1 }) None there agree.needs_others;
-    each = everywhere (λ k. FenceStands (fence_of (posted fences hart (record { 0 = e + 1 }) None) k) (removals_by removals k)) hart
-        (subst (λ f. FenceStands f (removals_by removals hart)) (sym (fence_of-set_same fences hart _ there)) (inr (e, (refl, refl), none)))
+    needs_others = posted_fits fences hart (record { 0 = e + 1 }) vpn there agree.needs_others;
+    each = everywhere (λ k. FenceStands (fence_of (posted fences hart (record { 0 = e + 1 }) vpn) k) (removals_by removals k)) hart
+        (subst (λ f. FenceStands f (removals_by removals hart)) (sym (fence_of-set_same fences hart _ there)) (inr (e, refl, none)))
         (λ k other. subst (λ f. FenceStands f (removals_by removals k)) (sym (fence_of-set_other fences hart k _ other)) (agree.each k));
   }
 
-  -- the number is given back
+  pub fences_giving : (e : ℕ) → removals_by removals hart ≡ [] → FencesStand harts (posted fences hart (record { 0 = e + 1 }) None) removals
+  fences_giving e none = fences_posted e None none
+
+  -- the number is given back, or the instruction starts anew
   pub fences_given : removals_by removals hart ≡ [] → FencesStand harts (slice_set fences hart None) removals
   fences_given none = record {
     size = length-set fences hart None ∙ agree.size;

@@ -55,3 +55,9 @@ set_at_most f (x ∷ xs) (suc i) v = omega (arith, sum_by-cons f x xs, sum_by-co
 pub set_changes : {A : Type 0} (f : A → ℕ) (xs : List A) (i : ℕ) (v d : A) → i < length xs
     → sum_by f (slice_set xs i v) + f (unwrap_or (slice_get xs i) d) ≡ sum_by f xs + f v
 set_changes f xs i v d below = subst (λ x. sum_by f (slice_set xs i v) + f x ≡ sum_by f xs + f v) (sym (unwrap_or-slice_get xs i d)) (sum_by-set f xs i v d below)
+
+-- where one element's term falls by so much, so does the sum; a place past the end has no term
+pub set_falls : {A : Type 0} (f : A → ℕ) (xs : List A) (i : ℕ) (v d : A) (n : ℕ) → f d ≡ 0 → f v + n ≤ f (unwrap_or (slice_get xs i) d) → sum_by f (slice_set xs i v) + n ≤ sum_by f xs
+set_falls f [] i v d n none falls = let h : f v + n ≤ f d = falls in let z : f d ≡ 0 = none in omega arith
+set_falls f (x ∷ xs) zero v d n none falls = omega (arith, sum_by-cons f x xs, sum_by-cons f v xs, falls)
+set_falls f (x ∷ xs) (suc i) v d n none falls = omega (arith, sum_by-cons f x xs, sum_by-cons f x (slice_set xs i v), set_falls f xs i v d n none falls)

@@ -1,28 +1,32 @@
 -- The rows of `send` and `take`.
-use Rattle.std.proofs.Common.{◌≡◌, ◌≢◌, ℕ, ◌+◌, ◌<◌, true, false, List, length, slice_get, Option, Some, None, refl, sym, ap, ◌∙◌, subst}
+use Rattle.std.proofs.Common.{◌≡◌, ◌≢◌, ℕ, ◌+◌, ◌<◌, ◌≤◌, ◌||◌, Bool, true, false, is_some, List, length, slice_get, Option, Some, None, refl, sym, ap, ◌∙◌, subst}
 use Rattle.std.specs.Prelude.{slice_set}
-use Rattle.pl_base.specs.States.{is_free}
+use Rattle.pl_base.specs.States.{is_free, is_sealed}
 use Rattle.rv_hart.specs.declared.walks.Micro.{Micro}
+use Rattle.rv_hart.specs.declared.walks.Micro.TheVariants.{Fetching}
+use Rattle.rv_hart.specs.declared.walks.Walk.TheVariants.{Start}
 use Rattle.pl_base.specs.declared.number.HartNo.{HartNo}
 use Rattle.mon_life.specs.Pages.{page_put_at}
 use Rattle.world_machine.specs.Pages.{flat_pages, numbers_of}
 use Rattle.mon_enclave.specs.declared.enclave.Enclave.{Enclave}
-use Rattle.mon_enclave.specs.Records.{enclave_at, free_enclave, with_enclave}
+use Rattle.std.specs.List.{All}
+use Rattle.mon_enclave.specs.Records.{is_shared, enclave_at, free_enclave, with_enclave}
 use Rattle.pl_history.specs.declared.answer.Answer.{Answer}
 use Rattle.pl_history.specs.declared.line.Line.{Line}
-use Rattle.pl_history.specs.declared.line.Line.TheVariants.{Load, Store, Unmap, Create, Run, Resume, Destroy}
+use Rattle.pl_history.specs.declared.line.Line.TheVariants.{Load, Store, Unmap, Create, Shadow, Fork, Run, Resume, Destroy}
 use Rattle.pl_history.specs.declared.setup.SetupParts.{SetupParts}
 use Rattle.pl_history.specs.History.{part_end}
 use Rattle.pl_history.specs.Legal.{AllowedAnswer, after_answer}
 use Rattle.pl_history.specs.Monitor.{Monitor, Number, answer, script_of, with_number}
 use Rattle.world_attack.specs.Room.{RoomStays}
 use Rattle.world_machine.specs.declared.under.Under.{Under}
-use Rattle.world_machine.specs.declared.under.Under.TheVariants.{Idle, Seeking, Removing, Destroying, Putting, Running}
+use Rattle.world_machine.specs.declared.under.Under.TheVariants.{Idle, Seeking, Removing, Destroying, Putting, Running, Breaking}
 use Rattle.world_machine.specs.Answering.{answers}
 use Rattle.world_machine.specs.BytesAgree.{HasPut}
-use Rattle.world_machine.specs.EnclavesAgree.{EnclaveStands, EnclavesAgree}
-use Rattle.world_machine.specs.LinesUnderWay.{HasBytes, InstructionStands, IsRunning, LineUnderWay}
+use Rattle.world_machine.specs.EnclavesAgree.{EnclaveStands, EnclavesAgree, is_made}
+use Rattle.world_machine.specs.LinesUnderWay.{HasBytes, InstructionStands, IsBuilding, IsForking, IsPutting, IsRunning, LineUnderWay, first_table_step}
 use Rattle.world_machine.specs.Making.{image_of}
+use Rattle.world_machine.specs.PagesAgree.{PagesAgree, PagesAre}
 use Rattle.world_machine.specs.RecordsAgree.{RecordAgrees, RecordsAgree, is_begun}
 use Rattle.world_machine.specs.Standing.{Kept, state_of, written_page}
 use Rattle.world_machine.specs.TranslationsAgree.{IsFresh, WalkingStands, walking}
@@ -31,7 +35,9 @@ use Rattle.world_machine.proofs.Frames.{instruction_stays}
 use Rattle.world_machine.proofs.LineKinds.{answered_line}
 use Rattle.world_machine.proofs.LineTranslations.{idle_walks, isnt_waiting}
 use Rattle.world_machine.proofs.Lists.{ChangedAt, changed_set, everywhere, if_other, if_same}
-use Rattle.world_machine.proofs.QuietRows.{attacks_live, idle_has_none, idle_put_none, none_some}
+use Rattle.world_machine.proofs.OneNumber.{attacks_stay}
+use Rattle.world_machine.proofs.PagesStay.{pages_changed}
+use Rattle.world_machine.proofs.QuietRows.{idle_has_none, idle_put_none, none_some}
 use Rattle.world_machine.proofs.RowKept.{line_after, row_kept}
 use Rattle.world_machine.proofs.TranslationFrames.{SpacesStay, entries_stay, translations_stay, written_stay}
 
@@ -41,11 +47,19 @@ pub record SameButWords (r r' : Enclave) : Type 0 where
   pub hart : r'.hart ≡ r.hart
   pub image : r'.image ≡ r.image
   pub pages : r'.pages ≡ r.pages
+  pub parent : r'.parent ≡ r.parent
   pub context : r'.context ≡ r.context
   pub retired : r'.retired ≡ r.retired
 
 pub same_but_words : (r : Enclave) → SameButWords r r
-same_but_words r = record { state = refl; hart = refl; image = refl; pages = refl; context = refl; retired = refl }
+same_but_words r = record { state = refl; hart = refl; image = refl; pages = refl; parent = refl; context = refl; retired = refl }
+
+-- and such a number of the monitor
+pub record NumberButWords (n n' : Number) : Type 0 where
+  pub state : n'.state ≡ n.state
+  pub live : n'.live ≡ n.live
+  pub pages : n'.pages ≡ n.pages
+  pub retired : n'.retired ≡ n.retired
 
 -- such a record keeps what holds of a line under way
 module _ (setup : SetupParts) (bytes : ℕ → List ℕ) (rec rec' : ℕ → Enclave) (number number' : ℕ → Number) (same : (f : ℕ) → SameButWords (rec f) (rec' f))
@@ -54,7 +68,7 @@ module _ (setup : SetupParts) (bytes : ℕ → List ℕ) (rec rec' : ℕ → Enc
       → InstructionStands (image_of setup r'.image).pages bytes r' micro
   instruction_words r r' micro w k =
       subst (λ n. InstructionStands (image_of setup n).pages bytes r' micro) (sym w.image)
-      (instruction_stays (image_of setup r.image).pages bytes bytes r r' w.context (ap numbers_of w.pages) (ap (λ p. flat_pages bytes (image_of setup r.image).pages (numbers_of p)) w.pages) micro k)
+      (instruction_stays (image_of setup r.image).pages bytes bytes r r' w.context w.pages (ap (λ p. flat_pages bytes (image_of setup r.image).pages (numbers_of p)) w.pages) micro k)
 
   running_words : (f hart budget count : ℕ) (micro : Micro) → IsRunning setup bytes (rec f) (number f) hart budget count micro → IsRunning setup bytes (rec' f) (number' f) hart budget count micro
   running_words f hart budget count micro k = record {
@@ -65,20 +79,41 @@ module _ (setup : SetupParts) (bytes : ℕ → List ℕ) (rec rec' : ℕ → Enc
     instruction = instruction_words (rec f) (rec' f) micro (same f) k.instruction;
   }
 
+  putting_words : (r r' : Enclave) (f image : ℕ) (shadow : Bool) (first done : ℕ) → SameButWords r r'
+      → IsPutting setup bytes r f image shadow first done → IsPutting setup bytes r' f image shadow first done
+  putting_words r r' f image shadow first done w k = record {
+    state = w.state ∙ k.state;
+    image_is = w.image ∙ k.image_is;
+    few = k.few;
+    put = λ at from below. subst (λ kinds. HasBytes bytes (page_put_at setup.tables f (image_of setup image) kinds at)) (sym w.pages) (k.put at from below);
+  }
+
+  building_words : (f image : ℕ) (shadow : Bool) (pages : List ℕ) (done : ℕ)
+      → IsBuilding setup bytes (rec f) f image shadow pages done → IsBuilding setup bytes (rec' f) f image shadow pages done
+  building_words f image shadow pages done k =
+      record { pages_are = (same f).pages ∙ k.pages_are; putting = putting_words (rec f) (rec' f) f image shadow 0 done (same f) k.putting }
+
+  forking_words : (f done : ℕ) → IsForking setup bytes (rec f) f done → IsForking setup bytes (rec' f) f done
+  forking_words f done k = record {
+    forked = ap is_some (same f).parent ∙ k.forked;
+    shared = subst (All (λ kind. is_shared kind ≡ true)) (sym (same f).pages) k.shared;
+    from = subst (λ image. length (image_of setup image).pages ≤ done) (sym (same f).image) k.from;
+    putting = subst (λ image. IsPutting setup bytes (rec' f) f image false (length (image_of setup image).pages) done) (sym (same f).image)
+        (putting_words (rec f) (rec' f) f (rec f).image false (first_table_step setup (rec f)) done (same f) k.putting);
+  }
+
   pub line_words : (hart : ℕ) (line : Option Line) (under : Under) → LineUnderWay setup bytes rec number hart line under → LineUnderWay setup bytes rec' number' hart line under
   line_words hart line Idle k = tt
   line_words hart (Some (Load va)) (Seeking walk) k = k
   line_words hart (Some (Store va word)) (Seeking walk) k = k
   line_words hart (Some (Unmap va)) (Removing page) k = tt
-  line_words hart (Some (Create f image pages)) (Putting done) k = record {
-    state = (same f.0).state ∙ k.state;
-    image_is = (same f.0).image ∙ k.image_is;
-    pages_are = (same f.0).pages ∙ k.pages_are;
-    few = k.few;
-    put = λ at below. subst (λ p. HasBytes bytes (page_put_at setup.tables f.0 (image_of setup image) p at)) (sym (same f.0).pages) (k.put at below);
-  }
+  line_words hart (Some (Create f image pages)) (Putting done) k = building_words f.0 image false pages done k
+  line_words hart (Some (Shadow f image pages)) (Putting done) k = building_words f.0 image true pages done k
+  line_words hart (Some (Fork shadow f pages)) (Putting done) k = forking_words f.0 done k
   line_words hart (Some (Run f budget)) (Running micro count) k = running_words f.0 hart budget count micro k
+  line_words hart (Some (Run f budget)) (Breaking count) k = running_words f.0 hart budget count (Fetching Start) k
   line_words hart (Some (Resume f budget)) (Running micro count) k = running_words f.0 hart budget count micro k
+  line_words hart (Some (Resume f budget)) (Breaking count) k = running_words f.0 hart budget count (Fetching Start) k
   line_words hart (Some (Destroy f)) Destroying k = (same f.0).state ∙ k
   line_words hart line under k = elim k [ ]
 
@@ -87,8 +122,8 @@ module _ (digest_of : List ℕ → List ℕ) (room_stays : RoomStays) (w : World
     (allowed : AllowedAnswer w.setup (state_of w) line (is_begun (under_at w.under hart)) now)
     (e : ℕ) (there : e < length w.enclaves) (r : Enclave) (n : Number)
     (gives : after_answer (state_of w) hart line now ≡ answer (with_number (state_of w) e n) hart)
-    (words : SameButWords (enclave_at w.enclaves e) r) (retired : n.retired ≡ ((state_of w).number e).retired) (live : n.live ≡ ((state_of w).number e).live)
-    (agrees : RecordAgrees r n)
+    (words : SameButWords (enclave_at w.enclaves e) r) (number_words : NumberButWords ((state_of w).number e) n) (agrees : RecordAgrees r n)
+    (pages_now : PagesAre w.setup (state_of w).number r n)
     (stands : is_free (enclave_at w.enclaves e).state ≡ false → EnclaveStands w.setup (written_page w) w.owners e r n)
     (waited : isnt_waiting (under_at w.under hart) ≡ true) where
   abbrev s : Monitor
@@ -115,17 +150,15 @@ module _ (digest_of : List ℕ → List ℕ) (room_stays : RoomStays) (w : World
       (λ f other. subst (SameButWords (enclave_at w.enclaves f)) (sym (change.others f other)) (same_but_words (enclave_at w.enclaves f)))
 
   all_retired : (f : ℕ) → (s'.number f).retired ≡ (s.number f).retired
-  all_retired = everywhere (λ f. (s'.number f).retired ≡ (s.number f).retired) e (ap (λ (m : Number). m.retired) number_here ∙ retired)
+  all_retired = everywhere (λ f. (s'.number f).retired ≡ (s.number f).retired) e (ap (λ (m : Number). m.retired) number_here ∙ number_words.retired)
       (λ f other. ap (λ (m : Number). m.retired) (number_other f other))
 
-  all_live : (f : ℕ) → (s'.number f).live ≡ (s.number f).live
-  all_live = everywhere (λ f. (s'.number f).live ≡ (s.number f).live) e (ap (λ (m : Number). m.live) number_here ∙ live)
-      (λ f other. ap (λ (m : Number). m.live) (number_other f other))
+  made_same : is_made n ≡ is_made (s.number e)
+  made_same = λ i. number_words.live i || is_sealed (number_words.state i)
 
-  all_pages : (f : ℕ) → (s'.number f).pages ≡ (s.number f).pages
-  all_pages = everywhere (λ f. (s'.number f).pages ≡ (s.number f).pages) e
-      (ap (λ (m : Number). m.pages) number_here ∙ agrees.pages ∙ ap numbers_of words.pages ∙ sym (k.stands.records e).pages)
-      (λ f other. ap (λ (m : Number). m.pages) (number_other f other))
+  all_live : (f : ℕ) → (s'.number f).live ≡ (s.number f).live
+  all_live = everywhere (λ f. (s'.number f).live ≡ (s.number f).live) e (ap (λ (m : Number). m.live) number_here ∙ number_words.live)
+      (λ f other. ap (λ (m : Number). m.live) (number_other f other))
 
   records_agree : RecordsAgree (enclave_at enclaves') s'.number
   records_agree = everywhere (λ f. RecordAgrees (enclave_at enclaves' f) (s'.number f)) e
@@ -141,18 +174,18 @@ module _ (digest_of : List ℕ → List ℕ) (room_stays : RoomStays) (w : World
       (subst (EnclaveStands w.setup (written_page w) w.owners f (enclave_at w.enclaves f)) (sym (number_other f other))
       (k.stands.enclaves f (ap is_free (sym ((all_words f).state)) ∙ used))))
 
+  pages_agree : PagesAgree w.setup (enclave_at enclaves') s'.number
+  pages_agree = pages_changed w.setup e (enclave_at w.enclaves) (enclave_at enclaves') s.number s'.number r n change.others number_other
+      change.here number_here number_words.pages k.stands.pages
+      pages_now
+
   -- ---- translations
 
-  all_images : (f : ℕ) → (s'.number f).image ≡ (s.number f).image
-  all_images f = (records_agree f).image ∙ (all_words f).image ∙ sym (k.stands.records f).image
-
-  spaces : SpacesStay digest_of w k w.ctl (enclave_at enclaves') w.owners s'
+  spaces : SpacesStay digest_of w k w.ctl (enclave_at enclaves') s'
   spaces = record {
     space = refl;
     removals = refl;
-    numbers = λ f is_live. record { live = all_live f ∙ is_live; image = all_images f; pages = all_pages f };
-    records = records_agree;
-    enclaves = enclaves_agree;
+    numbers = λ f is_live. record { live = all_live f ∙ is_live; image = (all_words f).image; pages = (all_words f).pages };
   }
 
   -- a record that took or was sent a word
@@ -165,17 +198,25 @@ module _ (digest_of : List ℕ → List ℕ) (room_stays : RoomStays) (w : World
         trees = k.trees;
         owners_agree = record { owner = k.stands.owners.owner; maps = k.stands.owners.maps };
         records = records_agree;
+        pages_agree = pages_agree;
         enclaves_agree = enclaves_agree;
         host = k.stands.host;
-        attacks = attacks_live w hart s' _ _ digest_of k refl all_live all_pages
-            (λ other differs. ap (slice_get (script_of w.setup other)) (moves.answered_change.others other differs))
-            moves.under_change.others
-            (λ page put. absurd (idle_put_none _ page (subst (λ u. HasPut (line_after w (slice_set w.answered hart (answered_at w.answered hart + 1)) hart) u page) moves.under_change.here put)));
+        attacks = attacks_stay digest_of w k hart e (enclave_at enclaves') s' w.owners _ _ (record {
+          attacks = refl;
+          records = change.others;
+          numbers = number_other;
+          guarded = λ page is. is;
+          made = λ made. (sym made_same ∙ ap is_made (sym number_here) ∙ made, (all_words e).pages);
+          lines = λ other differs. ap (slice_get (script_of w.setup other)) (moves.answered_change.others other differs);
+          unders = moves.under_change.others;
+          put = λ page put. idle_put_none _ page
+              (subst (λ u. HasPut (line_after w (slice_set w.answered hart (answered_at w.answered hart + 1)) hart) u page) moves.under_change.here put);
+        });
         other_lines = λ other differs. line_words w.setup (written_page w) (enclave_at w.enclaves) (enclave_at enclaves') s.number s'.number all_words all_retired other
             (hart_line w other) (under_at w.under other) (k.stands.lines other);
         own_line = tt;
         own_apart = λ other f differs own there. none_some f _ (idle_has_none _) own;
-        translations = translations_stay digest_of w k w.ctl (enclave_at enclaves') w.owners s' spaces (written_stay digest_of w k (enclave_at enclaves') w.owners s' (λ f was. all_live f ∙ was)) hart w.tlbs _ _ (record {
+        translations = translations_stay digest_of w k w.ctl (enclave_at enclaves') s' spaces (written_stay digest_of w k (enclave_at enclaves') s' (λ f was. all_live f ∙ was)) hart w.tlbs _ _ (record {
           lines = λ other differs. ap (slice_get (script_of w.setup other)) (moves.answered_change.others other differs);
           unders = moves.under_change.others;
           contexts = λ other f differs is. (all_words f).context;
@@ -183,8 +224,8 @@ module _ (digest_of : List ℕ → List ℕ) (room_stays : RoomStays) (w : World
           tlbs = λ other differs. refl;
           waited_none = waited;
           waits_none = ap isnt_waiting moves.under_change.here;
-          entries = entries_stay digest_of w k w.ctl (enclave_at enclaves') w.owners s' spaces hart;
-          walk = subst (λ u. WalkingStands w.ctl (IsFresh w.setup s' w.fences hart) (walking w.setup.tables (enclave_at enclaves') (line_after w (slice_set w.answered hart (answered_at w.answered hart + 1)) hart) u))
-              (sym moves.under_change.here) (idle_walks w.ctl (IsFresh w.setup s' w.fences hart) w.setup.tables (enclave_at enclaves') _);
+          entries = entries_stay digest_of w k w.ctl (enclave_at enclaves') s' spaces hart;
+          walk = subst (λ u. WalkingStands w.ctl (IsFresh w.setup (enclave_at enclaves') s' w.fences hart) (walking w.setup.tables (enclave_at enclaves') (line_after w (slice_set w.answered hart (answered_at w.answered hart + 1)) hart) u))
+              (sym moves.under_change.here) (idle_walks w.ctl (IsFresh w.setup (enclave_at enclaves') s' w.fences hart) w.setup.tables (enclave_at enclaves') _);
         });
       })

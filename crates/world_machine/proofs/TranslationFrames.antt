@@ -1,5 +1,5 @@
 -- An event that leaves the fences, the host's space and the removals leaves the translations, where the tables' pages of live numbers stay.
-use Rattle.std.proofs.Common.{◌≡◌, ◌≢◌, ℕ, ◌+◌, ◌*◌, ◌<◌, ◌≤◌, leb, Bool, true, false, List, [], length, map, unwrap_or, Option, Some, refl, ap, sym, ◌∙◌, subst, arith, inl, inr}
+use Rattle.std.proofs.Common.{◌≡◌, ◌≢◌, ℕ, ◌+◌, ◌*◌, ◌<◌, ◌≤◌, leb, Bool, true, false, List, [], length, unwrap_or, Option, Some, refl, ap, sym, ◌∙◌, subst, arith, inl, inr}
 use Rattle.std.specs.List.{All}
 use Rattle.std.proofs.lemmas.Bool.{and_parts, false≢true, leb-true}
 use Rattle.std.proofs.lemmas.List.Elements.{All-weaker}
@@ -14,12 +14,10 @@ use Rattle.mem_ctl.specs.Access.{BothStay}
 use Rattle.mem_ctl.specs.Data.{CtlData}
 use Rattle.mem_geom.specs.Parts.{page_bytes}
 use Rattle.mon_enclave.specs.declared.enclave.Enclave.{Enclave}
-use Rattle.mon_enclave.specs.declared.enclave.PageKind.TheVariants.{Own}
 use Rattle.mon_enclave.specs.Records.{enclave_at}
 use Rattle.mon_fence.specs.Fences.{fence_of}
 use Rattle.mon_host.specs.Laws.{mirror_words}
 use Rattle.mon_life.specs.Pages.{leaves_of}
-use Rattle.mon_owner.specs.declared.owners.Owner.{Owner}
 use Rattle.mon_tables.specs.Space.{first_vpn, mapping_at}
 use Rattle.mon_tables.specs.SpaceWalks.{HostTables, NumberTables, leaf_mappings}
 use Rattle.mon_tables.specs.Tables.{root_of, table_number}
@@ -29,31 +27,33 @@ use Rattle.pl_history.specs.Monitor.{Monitor, Number, Removal}
 use Rattle.pl_history.specs.Rules.{guarded_of, pages_of}
 use Rattle.world_machine.specs.declared.under.Under.{Under}
 use Rattle.world_machine.specs.declared.under.Under.TheVariants.{Idle}
-use Rattle.world_machine.specs.EnclavesAgree.{EnclaveStands, EnclavesAgree}
-use Rattle.world_machine.specs.FencesStand.{FencesStand, GivingStands, IsOfHost, RemovalStands, removals_by}
+use Rattle.world_machine.specs.FencesStand.{FencesStand, NumberFenceStands, IsOfHost, RemovalStands, removals_by}
 use Rattle.world_machine.specs.LinesUnderWay.{number_under_way}
 use Rattle.world_machine.specs.Making.{image_of}
-use Rattle.world_machine.specs.RecordsAgree.{LiveAgrees, RecordAgrees, RecordsAgree}
+use Rattle.world_machine.specs.RecordsAgree.{LiveAgrees, RecordAgrees}
 use Rattle.world_machine.specs.Standing.{Kept, state_of, written_page}
 use Rattle.world_machine.specs.TablesAgree.{TablesAgree}
 use Rattle.world_machine.specs.TranslationsAgree.{IsFresh, MayUse, TranslationsStand, WalkingStands, space_of, walking}
 use Rattle.world_machine.specs.Worlds.{WorldData, hart_line, tlb_at, under_at}
 use Rattle.world_machine.proofs.LineTranslations.{gives_none, idle_walks, isnt_waiting, line_walks, none_given, none_removed, removes_none}
 use Rattle.world_machine.proofs.Lists.{everywhere}
-use Rattle.world_machine.proofs.NumberSpaces.{space_is}
 use Rattle.world_machine.proofs.SetupFacts.{guarded_few, table_guarded, used_there}
 use Rattle.world_machine.proofs.TablesReached.{host_table_at, host_tables_stay, number_table_at, number_tables_stay}
 
 -- ---- the space of a live number
 
--- a number stays live, and keeps its image and its pages
-pub record KeepsSpace (n n' : Number) : Type 0 where
+-- a number stays live, and its record keeps its image and its pages
+pub record KeepsSpace (r r' : Enclave) (n' : Number) : Type 0 where
   pub live : n'.live ≡ true
-  pub image : n'.image ≡ n.image
-  pub pages : n'.pages ≡ n.pages
+  pub image : r'.image ≡ r.image
+  pub pages : r'.pages ≡ r.pages
 
-pub same_keeps : (n n' : Number) → n' ≡ n → n.live ≡ true → KeepsSpace n n'
-same_keeps n n' same live = record { live = ap (λ (m : Number). m.live) same ∙ live; image = ap (λ (m : Number). m.image) same; pages = ap (λ (m : Number). m.pages) same }
+pub same_keeps : (r r' : Enclave) (n n' : Number) → r' ≡ r → n' ≡ n → n.live ≡ true → KeepsSpace r r' n'
+same_keeps r r' n n' same_record same live = record {
+  live = ap (λ (m : Number). m.live) same ∙ live;
+  image = ap (λ (x : Enclave). x.image) same_record;
+  pages = ap (λ (x : Enclave). x.pages) same_record;
+}
 
 live_used : (state : State) (live : Bool) → LiveAgrees state live → live ≡ true → is_free state ≡ false
 live_used state_is.Free live agrees is = absurd (false≢true (sym agrees ∙ is))
@@ -65,15 +65,8 @@ live_in_use r n agrees live = live_used r.state n.live agrees.live live
 
 -- ---- its leaves
 
-pages_are : (setup : SetupParts) (bytes : ℕ → List ℕ) (owners : List Owner) (e : ℕ) (r : Enclave) (n : Number) → RecordAgrees r n → EnclaveStands setup bytes owners e r n → r.pages ≡ map Own n.pages
-pages_are setup bytes owners e r n agrees stands = stands.own ∙ ap (map Own) (sym agrees.pages)
-
-leaves_same : (setup : SetupParts) (r r' : Enclave) (n n' : Number) → r.pages ≡ map Own n.pages → r'.pages ≡ map Own n'.pages → RecordAgrees r n → RecordAgrees r' n' → KeepsSpace n n'
-    → leaves_of r.pages (image_of setup r.image).pages ≡ leaves_of r'.pages (image_of setup r'.image).pages
-leaves_same setup r r' n n' own own' agrees agrees' keeps =
-    let same_pages : r.pages ≡ r'.pages = own ∙ ap (map Own) (sym keeps.pages) ∙ sym own' in
-    let same_image : r.image ≡ r'.image = sym agrees.image ∙ sym keeps.image ∙ agrees'.image in
-    ap (λ pages. leaves_of pages (image_of setup r.image).pages) same_pages ∙ ap (λ image. leaves_of r'.pages (image_of setup image).pages) same_image
+leaves_same : (setup : SetupParts) (r r' : Enclave) (n' : Number) → KeepsSpace r r' n' → leaves_of r.pages (image_of setup r.image).pages ≡ leaves_of r'.pages (image_of setup r'.image).pages
+leaves_same setup r r' n' keeps = λ i. leaves_of (sym keeps.pages i) (image_of setup (sym keeps.image i)).pages
 
 module _ (digest_of : List ℕ → List ℕ) (w : WorldData) (k : Kept digest_of w) where
   abbrev s : Monitor
@@ -96,11 +89,11 @@ module _ (digest_of : List ℕ → List ℕ) (w : WorldData) (k : Kept digest_of
         (λ h other. subst (λ l. RemovalStands l (under' h) (removals_by s.removals h)) (sym (lines h other))
         (subst (λ u. RemovalStands (hart_line w h) u (removals_by s.removals h)) (sym (unders h other)) (k.stands.translations.removals h)))
 
-    pub giving_stays : (hart : ℕ) → GivingStands (line' hart) (under' hart) (fence_of w.fences hart)
-    giving_stays = everywhere (λ h. GivingStands (line' h) (under' h) (fence_of w.fences h)) actor
+    pub giving_stays : (hart : ℕ) → NumberFenceStands (line' hart) (under' hart) (fence_of w.fences hart)
+    giving_stays = everywhere (λ h. NumberFenceStands (line' h) (under' h) (fence_of w.fences h)) actor
         (gives_none (line' actor) (under' actor) (fence_of w.fences actor) waits (giving_so actor waited))
-        (λ h other. subst (λ l. GivingStands l (under' h) (fence_of w.fences h)) (sym (lines h other))
-        (subst (λ u. GivingStands (hart_line w h) u (fence_of w.fences h)) (sym (unders h other)) (k.stands.translations.giving h)))
+        (λ h other. subst (λ l. NumberFenceStands l (under' h) (fence_of w.fences h)) (sym (lines h other))
+        (subst (λ u. NumberFenceStands (hart_line w h) u (fence_of w.fences h)) (sym (unders h other)) (k.stands.translations.giving h)))
 
   -- ---- a hart that there isn't
 
@@ -152,10 +145,10 @@ module _ (digest_of : List ℕ → List ℕ) (w : WorldData) (k : Kept digest_of
 
   -- and each walk stands over tables that stand for the same spaces
   pub walk_over : (c : CtlData) → TablesAgree w.setup c (enclave_at w.enclaves) s → (hart : ℕ)
-      → WalkingStands c (IsFresh w.setup s w.fences hart) (walking w.setup.tables (enclave_at w.enclaves) (hart_line w hart) (under_at w.under hart))
+      → WalkingStands c (IsFresh w.setup (enclave_at w.enclaves) s w.fences hart) (walking w.setup.tables (enclave_at w.enclaves) (hart_line w hart) (under_at w.under hart))
   walk_over c agree hart =
       let tables = k.stands.translations.tables in
-      line_walks w.setup.tables w.ctl c (IsFresh w.setup s w.fences hart) (IsFresh w.setup s w.fences hart) (λ entry fresh. fresh) s.number
+      line_walks w.setup.tables w.ctl c (IsFresh w.setup (enclave_at w.enclaves) s w.fences hart) (IsFresh w.setup (enclave_at w.enclaves) s w.fences hart) (λ entry fresh. fresh) s.number
       (host_table_at w.setup.tables (mirror_words w.ctl) (mirror_words c) s.space s.space tables.host agree.host)
       (λ f live. number_table_at w.setup.tables f (mirror_words w.ctl) (mirror_words c) _ _ few_tables (few_number f live) (tables.numbers f live) (agree.numbers f live))
       w.setup (written_page w) (enclave_at w.enclaves) (enclave_at w.enclaves) k.stands.records hart (hart_line w hart) (under_at w.under hart) (k.stands.lines hart) (λ f is. refl)
@@ -163,14 +156,12 @@ module _ (digest_of : List ℕ → List ℕ) (w : WorldData) (k : Kept digest_of
 
   -- ---- an event that leaves the spaces
 
-  module _ (c : CtlData) (rec' : ℕ → Enclave) (owners' : List Owner) (s' : Monitor) where
+  module _ (c : CtlData) (rec' : ℕ → Enclave) (s' : Monitor) where
     -- the host's space and the removals stay, and each live number keeps its space
     pub record SpacesStay : Type 0 where
       pub space : s'.space ≡ s.space
       pub removals : s'.removals ≡ s.removals
-      pub numbers : (f : ℕ) → (s.number f).live ≡ true → KeepsSpace (s.number f) (s'.number f)
-      pub records : RecordsAgree rec' s'.number
-      pub enclaves : EnclavesAgree w.setup (page_bytes c.mirror) owners' rec' s'.number
+      pub numbers : (f : ℕ) → (s.number f).live ≡ true → KeepsSpace (enclave_at w.enclaves f) (rec' f) (s'.number f)
 
     -- the pages of the host's tables and of those of live numbers stay, and a number that becomes live has its tables
     pub record TablePagesStay : Type 0 where
@@ -179,30 +170,16 @@ module _ (digest_of : List ℕ → List ℕ) (w : WorldData) (k : Kept digest_of
       pub made : (f : ℕ) → (s.number f).live ≡ false → (s'.number f).live ≡ true → NumberTables w.setup.tables f (mirror_words c) (leaves_of (rec' f).pages (image_of w.setup (rec' f).image).pages)
 
     module _ (spaces : SpacesStay) where
-      old_stands : (f : ℕ) → (s.number f).live ≡ true → EnclaveStands w.setup (written_page w) w.owners f (enclave_at w.enclaves f) (s.number f)
-      old_stands f live = k.stands.enclaves f (live_in_use (enclave_at w.enclaves f) (s.number f) (k.stands.records f) live)
-
-      new_stands : (f : ℕ) → (s'.number f).live ≡ true → EnclaveStands w.setup (page_bytes c.mirror) owners' f (rec' f) (s'.number f)
-      new_stands f live = spaces.enclaves f (live_in_use (rec' f) (s'.number f) (spaces.records f) live)
-
       same_leaves : (f : ℕ) → (s.number f).live ≡ true
           → leaves_of (enclave_at w.enclaves f).pages (image_of w.setup (enclave_at w.enclaves f).image).pages ≡ leaves_of (rec' f).pages (image_of w.setup (rec' f).image).pages
-      same_leaves f live =
-          leaves_same w.setup (enclave_at w.enclaves f) (rec' f) (s.number f) (s'.number f)
-          (pages_are w.setup (written_page w) w.owners f (enclave_at w.enclaves f) (s.number f) (k.stands.records f) (old_stands f live))
-          (pages_are w.setup (page_bytes c.mirror) owners' f (rec' f) (s'.number f) (spaces.records f) (new_stands f (spaces.numbers f live).live))
-          (k.stands.records f) (spaces.records f) (spaces.numbers f live)
+      same_leaves f live = leaves_same w.setup (enclave_at w.enclaves f) (rec' f) (s'.number f) (spaces.numbers f live)
 
       -- the space of a live number
-      pub space_stays : (f : ℕ) → (s.number f).live ≡ true → space_of w.setup s' f ≡ space_of w.setup s f
-      space_stays f live =
-          let still : (s'.number f).live ≡ true = (spaces.numbers f live).live in
-          space_is w.setup (page_bytes c.mirror) owners' f (rec' f) s'.number (spaces.records f) (new_stands f still) still
-          ∙ ap (leaf_mappings first_vpn) (sym (same_leaves f live))
-          ∙ sym (space_is w.setup (written_page w) w.owners f (enclave_at w.enclaves f) s.number (k.stands.records f) (old_stands f live) live)
+      pub space_stays : (f : ℕ) → (s.number f).live ≡ true → space_of w.setup (rec' f) ≡ space_of w.setup (enclave_at w.enclaves f)
+      space_stays f live = ap (leaf_mappings first_vpn) (sym (same_leaves f live))
 
       -- a translation that may be used may still be
-      pub fresh_stays : (hart : ℕ) (entry : TlbEntry) → IsFresh w.setup s w.fences hart entry → IsFresh w.setup s' w.fences hart entry
+      pub fresh_stays : (hart : ℕ) (entry : TlbEntry) → IsFresh w.setup (enclave_at w.enclaves) s w.fences hart entry → IsFresh w.setup rec' s' w.fences hart entry
       fresh_stays hart entry (inl of_host) = inl (record {
         mapping = of_host.mapping;
         is = of_host.is;
@@ -215,13 +192,13 @@ module _ (digest_of : List ℕ → List ℕ) (w : WorldData) (k : Kept digest_of
         is = of_number.is;
         fresh = elim of_number.fresh [
           | inl used ↦ inl ((spaces.numbers of_number.e used.0).live, ap (λ space. mapping_at space of_number.mapping.vpn) (space_stays of_number.e used.0) ∙ used.1)
-          | inr leaving ↦ inr leaving
+          | inr owed ↦ inr owed
         ];
       })
 
       -- and so may those of a TLB
-      pub entries_stay : (hart : ℕ) → All (IsFresh w.setup s' w.fences hart) (tlb_at w.tlbs hart)
-      entries_stay hart = All-weaker (IsFresh w.setup s w.fences hart) (IsFresh w.setup s' w.fences hart) (fresh_stays hart) (tlb_at w.tlbs hart) (k.stands.translations.fresh.entries hart)
+      pub entries_stay : (hart : ℕ) → All (IsFresh w.setup rec' s' w.fences hart) (tlb_at w.tlbs hart)
+      entries_stay hart = All-weaker (IsFresh w.setup (enclave_at w.enclaves) s w.fences hart) (IsFresh w.setup rec' s' w.fences hart) (fresh_stays hart) (tlb_at w.tlbs hart) (k.stands.translations.fresh.entries hart)
 
       module _ (pages : TablePagesStay) where
         tables_agree : TablesAgree w.setup c rec' s'
@@ -249,8 +226,8 @@ module _ (digest_of : List ℕ → List ℕ) (w : WorldData) (k : Kept digest_of
 
         -- the walk of a hart's line stands where the record of its number keeps its context
         pub walk_stays : (hart : ℕ) → ((f : ℕ) → number_under_way (hart_line w hart) (under_at w.under hart) ≡ Some f → (rec' f).context ≡ (enclave_at w.enclaves f).context)
-            → WalkingStands c (IsFresh w.setup s' w.fences hart) (walking w.setup.tables rec' (hart_line w hart) (under_at w.under hart))
-        walk_stays hart same = line_walks w.setup.tables w.ctl c (IsFresh w.setup s w.fences hart) (IsFresh w.setup s' w.fences hart) (fresh_stays hart) s.number host_at number_at
+            → WalkingStands c (IsFresh w.setup rec' s' w.fences hart) (walking w.setup.tables rec' (hart_line w hart) (under_at w.under hart))
+        walk_stays hart same = line_walks w.setup.tables w.ctl c (IsFresh w.setup (enclave_at w.enclaves) s w.fences hart) (IsFresh w.setup rec' s' w.fences hart) (fresh_stays hart) s.number host_at number_at
             w.setup (written_page w) (enclave_at w.enclaves) rec' k.stands.records hart (hart_line w hart) (under_at w.under hart) (k.stands.lines hart) same (k.stands.translations.fresh.walks hart)
 
         module _ (actor : ℕ) (tlbs' : List (List TlbEntry)) (line' : ℕ → Option Line) (under' : ℕ → Under) where
@@ -263,8 +240,8 @@ module _ (digest_of : List ℕ → List ℕ) (w : WorldData) (k : Kept digest_of
             pub tlbs : (hart : ℕ) → hart ≢ actor → tlb_at tlbs' hart ≡ tlb_at w.tlbs hart
             pub waited_none : isnt_waiting (under_at w.under actor) ≡ true
             pub waits_none : isnt_waiting (under' actor) ≡ true
-            pub entries : All (IsFresh w.setup s' w.fences actor) (tlb_at tlbs' actor)
-            pub walk : WalkingStands c (IsFresh w.setup s' w.fences actor) (walking w.setup.tables rec' (line' actor) (under' actor))
+            pub entries : All (IsFresh w.setup rec' s' w.fences actor) (tlb_at tlbs' actor)
+            pub walk : WalkingStands c (IsFresh w.setup rec' s' w.fences actor) (walking w.setup.tables rec' (line' actor) (under' actor))
 
           pub translations_stay : OneHartMoves → TranslationsStand w.setup c tlbs' w.fences rec' s' line' under'
           translations_stay m = record {
@@ -275,34 +252,31 @@ module _ (digest_of : List ℕ → List ℕ) (w : WorldData) (k : Kept digest_of
                 (removals_stay actor line' under' m.lines m.unders m.waited_none m.waits_none hart);
             giving = giving_stays actor line' under' m.lines m.unders m.waited_none m.waits_none;
             fresh = record {
-              entries = everywhere (λ h. All (IsFresh w.setup s' w.fences h) (tlb_at tlbs' h)) actor m.entries
-                  (λ h other. subst (All (IsFresh w.setup s' w.fences h)) (sym (m.tlbs h other)) (entries_stay h));
-              walks = everywhere (λ h. WalkingStands c (IsFresh w.setup s' w.fences h) (walking w.setup.tables rec' (line' h) (under' h))) actor m.walk
-                  (λ h other. subst (λ l. WalkingStands c (IsFresh w.setup s' w.fences h) (walking w.setup.tables rec' l (under' h))) (sym (m.lines h other))
-                  (subst (λ u. WalkingStands c (IsFresh w.setup s' w.fences h) (walking w.setup.tables rec' (hart_line w h) u)) (sym (m.unders h other))
+              entries = everywhere (λ h. All (IsFresh w.setup rec' s' w.fences h) (tlb_at tlbs' h)) actor m.entries
+                  (λ h other. subst (All (IsFresh w.setup rec' s' w.fences h)) (sym (m.tlbs h other)) (entries_stay h));
+              walks = everywhere (λ h. WalkingStands c (IsFresh w.setup rec' s' w.fences h) (walking w.setup.tables rec' (line' h) (under' h))) actor m.walk
+                  (λ h other. subst (λ l. WalkingStands c (IsFresh w.setup rec' s' w.fences h) (walking w.setup.tables rec' l (under' h))) (sym (m.lines h other))
+                  (subst (λ u. WalkingStands c (IsFresh w.setup rec' s' w.fences h) (walking w.setup.tables rec' (hart_line w h) u)) (sym (m.unders h other))
                   (walk_stays h (λ f is. m.contexts h f other is))));
             };
           }
 
   -- an event that changes no written byte, and makes no number live
-  pub written_stay : (rec' : ℕ → Enclave) (owners' : List Owner) (s' : Monitor) → ((f : ℕ) → (s.number f).live ≡ false → (s'.number f).live ≡ false) → TablePagesStay w.ctl rec' owners' s'
-  written_stay rec' owners' s' none_live = record { host = λ page low. refl; numbers = λ f level live low. refl; made = λ f was live. absurd (false≢true (sym (none_live f was) ∙ live)) }
+  pub written_stay : (rec' : ℕ → Enclave) (s' : Monitor) → ((f : ℕ) → (s.number f).live ≡ false → (s'.number f).live ≡ false) → TablePagesStay w.ctl rec' s'
+  written_stay rec' s' none_live = record { host = λ page low. refl; numbers = λ f level live low. refl; made = λ f was live. absurd (false≢true (sym (none_live f was) ∙ live)) }
 
   -- an event that changes no number and no written byte, after which the actor's line hasn't begun
   module _ (c : CtlData) (mirror : c.mirror ≡ w.ctl.mirror) (s' : Monitor) (space : s'.space ≡ s.space) (removals : s'.removals ≡ s.removals) (number : s'.number ≡ s.number)
       (actor : ℕ) (line' : ℕ → Option Line) (under' : ℕ → Under) (lines : (hart : ℕ) → hart ≢ actor → line' hart ≡ hart_line w hart) (unders : (hart : ℕ) → hart ≢ actor → under' hart ≡ under_at w.under hart)
       (waited : isnt_waiting (under_at w.under actor) ≡ true) (idle : under' actor ≡ Idle) where
-    quiet_spaces : SpacesStay c (enclave_at w.enclaves) w.owners s'
+    quiet_spaces : SpacesStay c (enclave_at w.enclaves) s'
     quiet_spaces = record {
       space = space;
       removals = removals;
-      numbers = λ f live. same_keeps (s.number f) (s'.number f) (ap (λ (of : ℕ → Number). of f) number) live;
-      records = subst (RecordsAgree (enclave_at w.enclaves)) (sym number) k.stands.records;
-      enclaves = subst (EnclavesAgree w.setup (page_bytes c.mirror) w.owners (enclave_at w.enclaves)) (sym number)
-          (subst (λ (memory : List ℕ). EnclavesAgree w.setup (page_bytes memory) w.owners (enclave_at w.enclaves) s.number) (sym mirror) k.stands.enclaves);
+      numbers = λ f live. same_keeps (enclave_at w.enclaves f) (enclave_at w.enclaves f) (s.number f) (s'.number f) refl (ap (λ (of : ℕ → Number). of f) number) live;
     }
 
-    quiet_pages : TablePagesStay c (enclave_at w.enclaves) w.owners s'
+    quiet_pages : TablePagesStay c (enclave_at w.enclaves) s'
     quiet_pages = record {
       host = λ page low. ap (λ (memory : List ℕ). page_bytes memory page) mirror;
       numbers = λ f level live low. ap (λ (memory : List ℕ). page_bytes memory (table_number w.setup.tables f level)) mirror;
@@ -310,7 +284,7 @@ module _ (digest_of : List ℕ → List ℕ) (w : WorldData) (k : Kept digest_of
     }
 
     pub quiet_translations : TranslationsStand w.setup c w.tlbs w.fences (enclave_at w.enclaves) s' line' under'
-    quiet_translations = translations_stay c (enclave_at w.enclaves) w.owners s' quiet_spaces quiet_pages actor w.tlbs line' under' (record {
+    quiet_translations = translations_stay c (enclave_at w.enclaves) s' quiet_spaces quiet_pages actor w.tlbs line' under' (record {
       lines = lines;
       unders = unders;
       contexts = λ hart f other is. refl;
@@ -318,7 +292,7 @@ module _ (digest_of : List ℕ → List ℕ) (w : WorldData) (k : Kept digest_of
       tlbs = λ hart other. refl;
       waited_none = waited;
       waits_none = ap isnt_waiting idle;
-      entries = entries_stay c (enclave_at w.enclaves) w.owners s' quiet_spaces actor;
-      walk = subst (λ u. WalkingStands c (IsFresh w.setup s' w.fences actor) (walking w.setup.tables (enclave_at w.enclaves) (line' actor) u)) (sym idle)
-          (idle_walks c (IsFresh w.setup s' w.fences actor) w.setup.tables (enclave_at w.enclaves) (line' actor));
+      entries = entries_stay c (enclave_at w.enclaves) s' quiet_spaces actor;
+      walk = subst (λ u. WalkingStands c (IsFresh w.setup (enclave_at w.enclaves) s' w.fences actor) (walking w.setup.tables (enclave_at w.enclaves) (line' actor) u)) (sym idle)
+          (idle_walks c (IsFresh w.setup (enclave_at w.enclaves) s' w.fences actor) w.setup.tables (enclave_at w.enclaves) (line' actor));
     })

@@ -21,14 +21,14 @@ use Rattle.pl_history.specs.Monitor.{Monitor, answer, maps_of, script_of}
 use Rattle.world_attack.specs.Room.{RoomStays}
 use Rattle.world_machine.specs.declared.under.Under.TheVariants.{Idle, Removing}
 use Rattle.world_machine.specs.Answering.{answers, entry_now, with_entry}
-use Rattle.world_machine.specs.FencesStand.{GivingStands, IsOfHost, RemovalStands, removals_by}
+use Rattle.world_machine.specs.FencesStand.{NumberFenceStands, IsOfHost, RemovalStands, removals_by}
 use Rattle.world_machine.specs.HostMapping.{ends_unmap, lacked_by}
 use Rattle.world_machine.specs.RecordsAgree.{is_begun}
 use Rattle.world_machine.specs.Standing.{Kept, state_of}
 use Rattle.world_machine.specs.TranslationsAgree.{IsFresh, MayUse, WalkingStands, walking}
 use Rattle.world_machine.specs.Worlds.{WorldData, answered_at, hart_line, tlb_at, under_at}
-use Rattle.world_machine.proofs.Freshness.{ended_used, leaving_still}
-use Rattle.world_machine.proofs.HostOwners.{host_counted, is_host-host, remapped_agree, remapped_guards, remapped_pool, remapped_stays, removed_less, without_map-is}
+use Rattle.world_machine.proofs.Freshness.{ended_used, owed_still}
+use Rattle.world_machine.proofs.HostOwners.{host_counted, is_host-host, remapped_agree, remapped_guards, remapped_owner, remapped_pool, remapped_stays, removed_less, without_map-is}
 use Rattle.world_machine.proofs.HostRows.{HostFrame, host_row}
 use Rattle.world_machine.proofs.HostSpaces.{removed_host}
 use Rattle.world_machine.proofs.HostChanges.{HostChange, fresh_by, host_changed}
@@ -85,7 +85,7 @@ module _ (digest_of : List ℕ → List ℕ) (room_stays : RoomStays) (w : World
     pool = remapped_pool w.owners page (maps_of s page) (maps_of s page - 1) counted;
     guarded = λ p is. remapped_stays w.owners page (maps_of s page) (maps_of s page - 1) counted p owner_is.Guard (λ maps clash. cc) is;
     guards = remapped_guards w.owners page (maps_of s page) (maps_of s page - 1) counted;
-    owned = λ e p is. remapped_stays w.owners page (maps_of s page) (maps_of s page - 1) counted p (owner_is.Enclave (record { 0 = e })) (λ maps clash. cc) is;
+    owned = λ e p is. remapped_owner w.owners page (maps_of s page) (maps_of s page - 1) counted p ∙ is;
     owners_agree = remapped_agree w.owners page (maps_of s page) (maps_of s page - 1) counted s s' k.stands.owners (λ p. refl) own_count other_count;
     numbers = λ e. refl;
     attacks = refl;
@@ -102,8 +102,8 @@ module _ (digest_of : List ℕ → List ℕ) (room_stays : RoomStays) (w : World
   used = ended_used s s' w.fences hart refl refl nobody
 
   of_host : IsOfHost (fence_of w.fences hart)
-  of_host = subst (λ u. GivingStands (Some (Unmap va)) u (fence_of w.fences hart)) so_far
-      (subst (λ l. GivingStands l (under_at w.under hart) (fence_of w.fences hart)) here (k.stands.translations.giving hart))
+  of_host = subst (λ u. NumberFenceStands (Some (Unmap va)) u (fence_of w.fences hart)) so_far
+      (subst (λ l. NumberFenceStands l (under_at w.under hart) (fence_of w.fences hart)) here (k.stands.translations.giving hart))
 
   change : HostChange w hart w.ctl w.tlbs fences' s' (line_after w (slice_set w.answered hart (answered_at w.answered hart + 1))) (under_at (slice_set w.under hart Idle))
   change = record {
@@ -115,16 +115,17 @@ module _ (digest_of : List ℕ → List ℕ) (room_stays : RoomStays) (w : World
         (removes_none _ Idle (removals_by s'.removals hart) refl (removals_by-ended s.removals hart));
     others = λ other differs. refl;
     used = λ other there differs. used other;
-    leaving = λ other there differs. leaving_still w.fences hart None of_host other;
+    owed = λ other there differs. owed_still w.fences hart None of_host other;
     giving = giving_set digest_of w k hart below None _ _ (λ other differs. ap (slice_get (script_of w.setup other)) (moves.answered_change.others other differs)) moves.under_change.others
-        (subst (λ u. GivingStands (line_after w (slice_set w.answered hart (answered_at w.answered hart + 1)) hart) u None) (sym moves.under_change.here) (gives_none _ Idle None refl tt));
-    own = All-weaker (IsFresh w.setup s w.fences hart) (IsFresh w.setup s' fences' hart) (fresh_by w.setup s s' w.fences fences' hart (λ e. refl) (used hart) (leaving_still w.fences hart None of_host hart)) (tlb_at w.tlbs hart)
+        (subst (λ u. NumberFenceStands (line_after w (slice_set w.answered hart (answered_at w.answered hart + 1)) hart) u None) (sym moves.under_change.here) (gives_none _ Idle None refl tt));
+    own = All-weaker (IsFresh w.setup (enclave_at w.enclaves) s w.fences hart) (IsFresh w.setup (enclave_at w.enclaves) s' fences' hart)
+        (fresh_by w.setup (enclave_at w.enclaves) s s' w.fences fences' hart (λ e. refl) (used hart) (owed_still w.fences hart None of_host hart)) (tlb_at w.tlbs hart)
         (k.stands.translations.fresh.entries hart);
     lines = λ other differs. ap (slice_get (script_of w.setup other)) (moves.answered_change.others other differs);
     unders = moves.under_change.others;
-    own_walk = subst (λ u. WalkingStands w.ctl (IsFresh w.setup s' fences' hart)
+    own_walk = subst (λ u. WalkingStands w.ctl (IsFresh w.setup (enclave_at w.enclaves) s' fences' hart)
         (walking w.setup.tables (enclave_at w.enclaves) (line_after w (slice_set w.answered hart (answered_at w.answered hart + 1)) hart) u))
-        (sym moves.under_change.here) (idle_walks w.ctl (IsFresh w.setup s' fences' hart) w.setup.tables (enclave_at w.enclaves) _);
+        (sym moves.under_change.here) (idle_walks w.ctl (IsFresh w.setup (enclave_at w.enclaves) s' fences' hart) w.setup.tables (enclave_at w.enclaves) _);
   }
 
   ended : Kept digest_of (answers (record w { owners = owners'; fences = fences' }) hart answer_is.Ok)

@@ -35,28 +35,28 @@ use Rattle.pl_history.specs.declared.line.Line.TheVariants.{Unmap}
 use Rattle.pl_history.specs.HostMaps as monitor_maps
 use Rattle.pl_history.specs.Legal.{AllowedAnswer}
 use Rattle.pl_history.specs.Licence.{Licensed, host_tables, slot_pages}
-use Rattle.pl_history.specs.Monitor.{Monitor, Removal, begin, is_host, script_of}
+use Rattle.pl_history.specs.Monitor.{Monitor, begin, is_host}
 use Rattle.pl_history.specs.Monitor as monitor
 use Rattle.world_attack.specs.Room.{RoomStays}
 use Rattle.world_machine.specs.declared.under.Under.TheVariants.{Idle, Removing}
 use Rattle.world_machine.specs.Answering.{begins, decided, entry_now, with_entry}
 use Rattle.world_machine.specs.BytesAgree.{HasPut}
-use Rattle.world_machine.specs.FencesStand.{GivingStands, IsOfHost, RemovalStands, removals_by}
+use Rattle.world_machine.specs.FencesStand.{NumberFenceStands, IsOfHost, RemovalStands, removals_by}
 use Rattle.world_machine.specs.HostAccessing.{host_faults}
 use Rattle.world_machine.specs.HostMapping.{begins_unmap, unmapped}
 use Rattle.world_machine.specs.LinesUnderWay.{LineUnderWay, number_under_way}
 use Rattle.world_machine.specs.RecordsAgree.{is_begun, owner_of}
 use Rattle.world_machine.specs.Standing.{Kept, state_of}
-use Rattle.world_machine.specs.TranslationsAgree.{IsFresh, MayUseNumber, WalkingStands, entry_of, walking}
+use Rattle.world_machine.specs.TranslationsAgree.{IsFresh, WalkingStands, entry_of, walking}
 use Rattle.world_machine.specs.Worlds.{WorldData, answered_at, hart_line, tlb_at, under_at}
 use Rattle.world_machine.proofs.FoundElements.{filtered_all}
-use Rattle.world_machine.proofs.Freshness.{Begins, begun_used, begun_used_own, leaving_still}
+use Rattle.world_machine.proofs.Freshness.{Begins, begun_used, begun_used_own, owed_still}
 use Rattle.world_machine.proofs.HostOutcomes.{HostLine, host_outcome_kept, left_kept, left_line, refused_kept}
 use Rattle.world_machine.proofs.HostOwners.{removing_same}
 use Rattle.world_machine.proofs.HostRefusals.{unmap_allows, unmap_may_fault, unmap_refused_early, unmap_refused_in}
 use Rattle.world_machine.proofs.HostRows.{HostFrame, host_row}
 use Rattle.world_machine.proofs.HostSpaces.{host_mappable}
-use Rattle.world_machine.proofs.HostChanges.{HostChange, host_changed, same_space}
+use Rattle.world_machine.proofs.HostChanges.{HostChange, host_changed, number_used}
 use Rattle.world_machine.proofs.Leaving.{giving_set}
 use Rattle.world_machine.proofs.LineKinds.{begun_line}
 use Rattle.world_machine.proofs.LineMoves.{LineMoves}
@@ -237,18 +237,25 @@ module _ (digest_of : List ℕ → List ℕ) (law : HasDigests digest_of) (room_
       not_covered : (m : Mapping) → not (is_of host_space vpn (entry_of host_space m)) ≡ true → m.vpn ≢ gone.vpn
       not_covered m is same = false≢true (ap (λ b. not (true && b)) (sym (eq-eqb m.vpn vpn.0 (same ∙ vpn_is))) ∙ is)
 
-      own_fresh : (entry : TlbEntry) → not (is_of host_space vpn entry) ≡ true → IsFresh w.setup s w.fences hart entry → IsFresh w.setup s' fences' hart entry
+      abbrev Before : TlbEntry → Type 0
+      Before = IsFresh w.setup (enclave_at w.enclaves) s w.fences hart
+
+      abbrev After : TlbEntry → Type 0
+      After = IsFresh w.setup (enclave_at w.enclaves) s' fences' hart
+
+      own_fresh : (entry : TlbEntry) → not (is_of host_space vpn entry) ≡ true → Before entry → After entry
       own_fresh entry passed (inl host) = inl (record {
         mapping = host.mapping;
         is = host.is;
         fresh = begun_used_own s s' w.fences hart gone begins_so host.mapping
             (not_covered host.mapping (subst (λ x. not (is_of host_space vpn x) ≡ true) host.is passed)) host.fresh;
       })
-      own_fresh entry passed (inr number) = inr (record { e = number.e; mapping = number.mapping; is = number.is; fresh = still number.fresh })
-        where
-          still : MayUseNumber w.setup s w.fences hart number.e number.mapping → MayUseNumber w.setup s' fences' hart number.e number.mapping
-          still (inl (live, at)) = inl (live, ap (λ space. mapping_at space number.mapping.vpn) (same_space w.setup s s' (λ e. refl) number.e) ∙ at)
-          still (inr leaving) = inr (leaving_still w.fences hart _ of_host hart number.e leaving)
+      own_fresh entry passed (inr number) = inr (record {
+        e = number.e;
+        mapping = number.mapping;
+        is = number.is;
+        fresh = number_used w.setup (enclave_at w.enclaves) s s' w.fences fences' hart (λ e. refl) (owed_still w.fences hart _ of_host hart) number.e number.mapping number.fresh;
+      })
 
       -- the hart's line after it
       line_now : line_after w w.answered hart ≡ Some (Unmap va)
@@ -267,16 +274,16 @@ module _ (digest_of : List ℕ → List ℕ) (law : HasDigests digest_of) (room_
             (subst (λ u. RemovalStands (Some (Unmap va)) u (removals_by s'.removals hart)) (sym moves.under_change.here) (gone.perms, removal_is));
         others = λ other differs. or_other w.tlbs hart other kept_entries [] differs;
         used = λ other inside differs m. begun_used s s' w.fences hart gone begins_so other m (subst (λ n. other < n) (sym k.stands.translations.fences_stand.size) inside) differs;
-        leaving = λ other inside differs. leaving_still w.fences hart _ of_host other;
+        owed = λ other inside differs. owed_still w.fences hart _ of_host other;
         giving = giving_set digest_of w k hart below _ _ _ (λ other differs. refl) moves.under_change.others
-            (subst (λ l. GivingStands l (under_at (slice_set w.under hart (Removing page)) hart) (Some fence)) (sym line_now)
-            (subst (λ u. GivingStands (Some (Unmap va)) u (Some fence)) (sym moves.under_change.here) refl));
-        own = subst (All (IsFresh w.setup s' fences' hart)) (sym (or_same w.tlbs hart kept_entries [] hart_has_tlb))
-            (filtered_all (λ entry. not (is_of host_space vpn entry)) (IsFresh w.setup s w.fences hart) (IsFresh w.setup s' fences' hart) own_fresh (tlb_at w.tlbs hart) (k.stands.translations.fresh.entries hart));
+            (subst (λ l. NumberFenceStands l (under_at (slice_set w.under hart (Removing page)) hart) (Some fence)) (sym line_now)
+            (subst (λ u. NumberFenceStands (Some (Unmap va)) u (Some fence)) (sym moves.under_change.here) refl));
+        own = subst (All After) (sym (or_same w.tlbs hart kept_entries [] hart_has_tlb))
+            (filtered_all (λ entry. not (is_of host_space vpn entry)) Before After own_fresh (tlb_at w.tlbs hart) (k.stands.translations.fresh.entries hart));
         lines = λ other differs. refl;
         unders = moves.under_change.others;
-        own_walk = subst (λ l. WalkingStands ctl (IsFresh w.setup s' fences' hart) (walking w.setup.tables (enclave_at w.enclaves) l (under_at (slice_set w.under hart (Removing page)) hart))) (sym line_now)
-            (subst (λ u. WalkingStands ctl (IsFresh w.setup s' fences' hart) (walking w.setup.tables (enclave_at w.enclaves) (Some (Unmap va)) u)) (sym moves.under_change.here) tt);
+        own_walk = subst (λ l. WalkingStands ctl After (walking w.setup.tables (enclave_at w.enclaves) l (under_at (slice_set w.under hart (Removing page)) hart))) (sym line_now)
+            (subst (λ u. WalkingStands ctl After (walking w.setup.tables (enclave_at w.enclaves) (Some (Unmap va)) u)) (sym moves.under_change.here) tt);
       }
 
       begun : Kept digest_of (begins (record w { ctl = ctl; fences = fences'; tlbs = tlbs' }) hart (Removing page))

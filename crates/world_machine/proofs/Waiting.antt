@@ -7,13 +7,14 @@ use Rattle.pl_base.specs.declared.number.HartSet.{HartSet}
 use Rattle.mon_fence.specs.declared.fences.Fence.{Fence}
 use Rattle.mon_fence.specs.Fences.{fence_of, lacking}
 use Rattle.pl_history.specs.declared.line.Line.{Line}
-use Rattle.pl_history.specs.declared.line.Line.TheVariants.{Load, Store, Map, Unmap, Create, Run, Resume, Send, Take, Destroy, After}
+use Rattle.pl_history.specs.declared.line.Line.TheVariants.{Load, Store, Map, Unmap, Create, Shadow, Fork, Grant, Drop, Run, Resume, Send, Take, Destroy, After}
 use Rattle.world_machine.specs.declared.turned.Turned.TheVariants as turned
 use Rattle.world_machine.specs.declared.turned.Wait.TheVariants as wait
 use Rattle.world_machine.specs.declared.under.Under.{Under}
-use Rattle.world_machine.specs.declared.under.Under.TheVariants.{Idle, Seeking, Removing, Destroying, Putting, Running}
+use Rattle.world_machine.specs.declared.under.Under.TheVariants.{Idle, Seeking, Removing, Destroying, Putting, Running, Breaking}
 use Rattle.world_machine.specs.GivingBack.{ends_destroy}
 use Rattle.world_machine.specs.HostMapping.{ends_unmap, lacked_by}
+use Rattle.world_machine.specs.Running.{restarts}
 use Rattle.world_machine.specs.Standing.{Kept}
 use Rattle.world_machine.specs.Steps.{Turn, due, hart_turn, moves, rests, turn_of, turned_by, waiting_turn}
 use Rattle.world_machine.specs.Worlds.{Event, WorldData, answered_at, hart_line, under_at}
@@ -44,10 +45,18 @@ module _ (digest_of : List ℕ → List ℕ) (w : WorldData) (hart : ℕ) (harts
   due_waits positions (Destroy e) Destroying is = fence_lacks (ends_destroy w hart e) (lacked_by w hart) is
   due_waits positions (Create e image pages) Idle is = cc
   due_waits positions (Create e image pages) (Putting done) is = cc
+  due_waits positions (Shadow e image pages) Idle is = cc
+  due_waits positions (Shadow e image pages) (Putting done) is = cc
+  due_waits positions (Fork shadow e pages) Idle is = cc
+  due_waits positions (Fork shadow e pages) (Putting done) is = cc
+  due_waits positions (Grant e page) Idle is = cc
+  due_waits positions (Drop shadow) Idle is = cc
   due_waits positions (Run e budget) Idle is = cc
   due_waits positions (Run e budget) (Running micro count) is = cc
+  due_waits positions (Run e budget) (Breaking count) is = fence_lacks (restarts w hart count) (lacked_by w hart) is
   due_waits positions (Resume e budget) Idle is = cc
   due_waits positions (Resume e budget) (Running micro count) is = cc
+  due_waits positions (Resume e budget) (Breaking count) is = fence_lacks (restarts w hart count) (lacked_by w hart) is
   due_waits positions (Send e word) Idle is = cc
   due_waits positions (Take e) Idle is = cc
   due_waits positions (After actor count) Idle is = absurd (after_waits (leb count (answered_at w.answered actor)) actor count _ is)

@@ -1,7 +1,6 @@
 -- What the code asks of a kept world: a walk that stands is one, a word that it asks for stands in a page that there is, at a multiple of 8, and
 -- so does the page of an access that is translated.
 use Rattle.std.proofs.Common.{◌≡◌, ℕ, ◌*◌, ◌%◌, ◌<◌, ◌≤◌, ◌==◌, true, List, sym, subst, arith}
-use Rattle.std.proofs.lemmas.List.Elements.{All-contains}
 use Rattle.pl_base.specs.Address.{vpn_of}
 use Rattle.pl_base.specs.declared.access.Kind.{Kind}
 use Rattle.pl_base.specs.declared.access.Kind.TheVariants.{Load}
@@ -17,11 +16,10 @@ use Rattle.mon_enclave.specs.declared.enclave.Enclave.{Enclave}
 use Rattle.mon_enclave.specs.Records.{enclave_at}
 use Rattle.mon_host.specs.Laws.{mirror_words}
 use Rattle.mon_life.specs.Pages.{leaves_of}
-use Rattle.mon_owner.specs.declared.owners.Owner.TheVariants as owner_is
 use Rattle.mon_tables.specs.Space.{Mapping}
 use Rattle.mon_tables.specs.SpaceWalks.{IsMappable}
 use Rattle.pl_history.specs.Monitor.{Monitor}
-use Rattle.world_machine.specs.EnclavesAgree.{IsOwn}
+use Rattle.world_machine.specs.Accesses.{HasAcknowledged}
 use Rattle.world_machine.specs.Making.{image_of}
 use Rattle.world_machine.specs.Pages.{numbers_of}
 use Rattle.world_machine.specs.Standing.{Kept, state_of}
@@ -31,10 +29,12 @@ use Rattle.world_machine.specs.Worlds.{WorldData, tlb_at}
 use Rattle.world_machine.proofs.FlatPages.{located_among}
 use Rattle.world_machine.proofs.HostSpaces.{few_pages, used_inside}
 use Rattle.world_machine.proofs.HostTranslations.{fresh_used, host_asks_table, host_reached}
-use Rattle.world_machine.proofs.NumberRows.{owned_within}
-use Rattle.world_machine.proofs.NumberTranslations.{asks_table, fresh_mapped, located_at, number_mappable, reached_above}
+use Rattle.world_machine.proofs.NumberRows.{own_within}
+use Rattle.world_machine.proofs.NumberTranslations.{asks_table, fresh_mapped, number_mappable, reached_above, reached_at}
+use Rattle.world_machine.proofs.ReachedPages.{reached_located}
 use Rattle.world_machine.proofs.TablePages.{host_table_page, number_table_page}
 use Rattle.world_machine.proofs.TranslationFrames.{few_numbers, few_tables, live_in_use, live_there, number_table_inside}
+use Rattle.world_machine.proofs.UnderWay.{held_owned}
 use Rattle.world_machine.proofs.WalkLemmas.{found}
 
 module _ (digest_of : List ℕ → List ℕ) (w : WorldData) (k : Kept digest_of w) (hart : ℕ) where
@@ -47,7 +47,7 @@ module _ (digest_of : List ℕ → List ℕ) (w : WorldData) (k : Kept digest_of
     abbrev view : View
     view = host_view w.setup.tables
 
-    pub host_walk_is : (walk : Walk) → WalkStands w.ctl (IsFresh w.setup s w.fences hart) view va walk → IsWalk walk
+    pub host_walk_is : (walk : Walk) → WalkStands w.ctl (IsFresh w.setup (enclave_at w.enclaves) s w.fences hart) view va walk → IsWalk walk
     host_walk_is Start stands = tt
     host_walk_is (Level level table) stands =
         let at = host_table_page w.setup.tables (mirror_words w.ctl) s.space (few_tables digest_of w k) k.stands.translations.tables.host va table.0 level stands.1 in
@@ -63,7 +63,7 @@ module _ (digest_of : List ℕ → List ℕ) (w : WorldData) (k : Kept digest_of
         let is = used.page in
         omega (arith, is, inside, few)
 
-    module _ (kind : Kind) (walk : Walk) (pa : Pa) (stands : WalkStands w.ctl (IsFresh w.setup s w.fences hart) view va walk) where
+    module _ (kind : Kind) (walk : Walk) (pa : Pa) (stands : WalkStands w.ctl (IsFresh w.setup (enclave_at w.enclaves) s w.fences hart) view va walk) where
       pub host_asks : (level : ℕ) → sought walk va kind (tlb_at w.tlbs hart) view ≡ Table pa level → (0x80000000 ≤ pa.0) × ((page_at pa < 64 * w.ctl.zones) × (offset_at pa % 8 ≡ 0))
       host_asks level asks =
           let at = host_asks_table digest_of w k hart va kind walk stands pa level asks in
@@ -75,9 +75,9 @@ module _ (digest_of : List ℕ → List ℕ) (w : WorldData) (k : Kept digest_of
           let address = at.is in
           (omega (arith, address), at.inside)
 
-  -- ---- a live number's
+  -- ---- a live number's, whose broken pages the hart has acknowledged
 
-  module _ (e : ℕ) (live : (s.number e).live ≡ true) (va : Va) where
+  module _ (e : ℕ) (live : (s.number e).live ≡ true) (acknowledged : HasAcknowledged w hart e) (va : Va) where
     abbrev number_view_of : View
     number_view_of = number_view w.setup.tables e
 
@@ -87,7 +87,7 @@ module _ (digest_of : List ℕ → List ℕ) (w : WorldData) (k : Kept digest_of
     small : e < 64
     small = (let few = few_numbers digest_of w k in let within = live_there digest_of w k e live in omega (arith, few, within))
 
-    pub number_walk_is : (walk : Walk) → WalkStands w.ctl (IsFresh w.setup s w.fences hart) number_view_of va walk → IsWalk walk
+    pub number_walk_is : (walk : Walk) → WalkStands w.ctl (IsFresh w.setup (enclave_at w.enclaves) s w.fences hart) number_view_of va walk → IsWalk walk
     number_walk_is Start stands = tt
     number_walk_is (Level level table) stands =
         let at = number_table_page w.setup.tables e (mirror_words w.ctl) (leaves_of r.pages (image_of w.setup r.image).pages) (few_tables digest_of w k) small
@@ -97,24 +97,24 @@ module _ (digest_of : List ℕ → List ℕ) (w : WorldData) (k : Kept digest_of
         let number = small in
         (at.0, omega (arith, is, few, number))
     number_walk_is (Found ppn perms) stands =
-        let mapped = fresh_mapped digest_of w k e live hart va Load ppn perms stands in
-        let fits = (found IsMappable (λ (x : Mapping). x.vpn == (vpn_of va).0) (space_of w.setup s e) mapped.mapping (number_mappable digest_of w k e live) mapped.there).0 in
+        let mapped = fresh_mapped digest_of w k e live hart acknowledged va Load ppn perms stands in
+        let fits = (found IsMappable (λ (x : Mapping). x.vpn == (vpn_of va).0) (space_of w.setup r) mapped.mapping (number_mappable digest_of w k e live) mapped.there).0 in
         let below = fits.page in
         let is = mapped.page in
         omega (arith, is, below)
 
-    module _ (kind : Kind) (walk : Walk) (pa : Pa) (stands : WalkStands w.ctl (IsFresh w.setup s w.fences hart) number_view_of va walk) where
+    module _ (kind : Kind) (walk : Walk) (pa : Pa) (stands : WalkStands w.ctl (IsFresh w.setup (enclave_at w.enclaves) s w.fences hart) number_view_of va walk) where
       pub number_asks : (level : ℕ) → sought walk va kind (tlb_at w.tlbs hart) number_view_of ≡ Table pa level
           → (0x80000000 ≤ pa.0) × ((page_at pa < 64 * w.ctl.zones) × (offset_at pa % 8 ≡ 0))
       number_asks level asks =
-          let at = (asks_table digest_of w k e live hart va kind walk stands pa level asks).1 in
+          let at = (asks_table digest_of w k e live hart acknowledged va kind walk stands pa level asks).1 in
           (at.above, (subst (λ p. p < 64 * w.ctl.zones) (sym at.page_is) (number_table_inside digest_of w k e level (live_there digest_of w k e live)), at.aligned))
 
       pub number_reaches : sought walk va kind (tlb_at w.tlbs hart) number_view_of ≡ At pa → (0x80000000 ≤ pa.0) × (page_at pa < 64 * w.ctl.zones)
       number_reaches asks =
-          let there = located_at digest_of w k e live hart va kind walk stands pa asks in
-          let stand = k.stands.enclaves e (live_in_use r (s.number e) (k.stands.records e) live) in (
-            reached_above digest_of w k e live hart va kind walk stands pa asks,
-            owned_within digest_of w k (page_at pa) (owner_is.Enclave (record { 0 = e }))
-                (All-contains (IsOwn w.owners e) (numbers_of r.pages) (page_at pa) stand.owned (located_among kind (image_of w.setup r.image).pages (numbers_of r.pages) va.0 (page_at pa) there)),
-          )
+          let there = reached_at digest_of w k e live hart acknowledged va kind walk stands pa asks in
+          let image = (image_of w.setup r.image).pages in
+          let at = reached_located kind image r.pages va.0 (page_at pa) there in
+          let stand = k.stands.enclaves e (live_in_use r (s.number e) (k.stands.records e) live) in
+          let owned = held_owned w.owners e r.parent r.pages (page_at pa) stand.held.owned (located_among kind image (numbers_of r.pages) va.0 (page_at pa) at) in
+          (reached_above digest_of w k e live hart acknowledged va kind walk stands pa asks, own_within digest_of w k owned.0 (page_at pa) owned.1)

@@ -10,23 +10,27 @@ use Rattle.pl_base.specs.declared.state.State.{State}
 use Rattle.pl_base.specs.declared.state.State.TheVariants as state_is
 use Rattle.pl_base.specs.Refusals.{first_refusal, refuse}
 use Rattle.pl_base.specs.States.{is_free, is_wordless}
-use Rattle.rv_alone.specs.Alone.{most_words}
+use Rattle.rv_alone.specs.Alone.{alone, most_words}
 use Rattle.rv_alone.proofs.Later.{sent_later}
 use Rattle.mon_enclave.specs.declared.enclave.Enclave.{Enclave}
 use Rattle.mon_enclave.specs.Records.{enclave_at, send_refusal, take_refusal, taken_word}
 use Rattle.pl_history.specs.declared.answer.Answer.TheVariants as answer_is
 use Rattle.pl_history.specs.declared.line.Line.TheVariants.{Send, Take}
 use Rattle.pl_history.specs.Legal.{AllowedAnswer}
-use Rattle.pl_history.specs.Monitor.{Monitor, Number}
+use Rattle.pl_history.specs.Monitor.{Number, flat_image}
 use Rattle.pl_history.specs.Words as monitor
 use Rattle.world_attack.specs.Room.{RoomStays}
 use Rattle.world_machine.specs.declared.under.Under.TheVariants.{Idle}
 use Rattle.world_machine.specs.EnclavesAgree.{EnclaveStands}
+use Rattle.world_machine.specs.Making.{image_of}
+use Rattle.world_machine.specs.PagesAgree.{PagesAre}
 use Rattle.world_machine.specs.RecordsAgree.{RecordAgrees, is_begun}
 use Rattle.world_machine.specs.Standing.{Kept, state_of, written_page}
 use Rattle.world_machine.specs.Talking.{changes_unless, sends_word, takes_word}
 use Rattle.world_machine.specs.Worlds.{WorldData, hart_line, under_at}
+use Rattle.world_machine.proofs.BrokenPages.{pages_sent}
 use Rattle.world_machine.proofs.LineTranslations.{isnt_waiting}
+use Rattle.world_machine.proofs.PagesStay.{pages_same}
 use Rattle.world_machine.proofs.QuietRows.{answers_kept}
 use Rattle.world_machine.proofs.SentOut.{comes_earlier, retired_few, sent_out_later}
 use Rattle.world_machine.proofs.TalkingRows.{words_kept}
@@ -91,7 +95,6 @@ module _ (digest_of : List ℕ → List ℕ) (room_stays : RoomStays) (w : World
       live = agrees.live;
       hart = agrees.hart;
       image = agrees.image;
-      pages = agrees.pages;
       given = agrees.given;
       parent = agrees.parent;
       sent = ap (λ xs. xs ++ word ∷ []) agrees.sent;
@@ -103,38 +106,43 @@ module _ (digest_of : List ℕ → List ℕ) (room_stays : RoomStays) (w : World
     sent_stands used =
         let x = k.stands.enclaves e.0 used in
         let image_is : slice_get w.setup.images n.image ≡ Some x.image = ap (slice_get w.setup.images) agrees.image ∙ x.image_is in
-        let comes = comes_earlier (Rattle.pl_history.specs.Monitor.flat_image x.image) n.sent n.retired r.retired x.now (retired_few r.state r.retired n.retired agrees.retired)
-        (ap (λ xs. Rattle.rv_alone.specs.Alone.alone (Rattle.pl_history.specs.Monitor.flat_image x.image) xs r.retired) agrees.sent ∙ x.alone_is) in
+        let comes = comes_earlier (flat_image x.image) n.sent n.retired r.retired x.state.now (retired_few r.state r.retired n.retired agrees.retired)
+        (ap (λ xs. alone (flat_image x.image) xs r.retired) agrees.sent ∙ x.state.alone_is) in
         record {
           image = x.image;
           image_is = x.image_is;
-          count = x.count;
-          own = x.own;
-          apart = x.apart;
-          owned = x.owned;
-          parent = x.parent;
-          spares = x.spares;
-          given = x.given;
-          now = x.now;
-          alone_is = sent_later (Rattle.pl_history.specs.Monitor.flat_image x.image) r.sent (word ∷ []) r.retired x.now x.alone_is;
-          context = x.context;
-          received = x.received;
-          out = x.out;
-          status = x.status;
-          aligned = x.aligned;
-          taken_few = x.taken_few;
-          shown_few = x.shown_few;
-          shown = x.shown ∙ sym (sent_out_later w.setup n x.image word image_is comes);
-          pages = x.pages;
-          start = x.start;
+          held = x.held;
+          state = record {
+            now = x.state.now;
+            alone_is = sent_later (flat_image x.image) r.sent (word ∷ []) r.retired x.state.now x.state.alone_is;
+            context = x.state.context;
+            received = x.state.received;
+            out = x.state.out;
+            status = x.state.status;
+            aligned = x.state.aligned;
+            taken_few = x.state.taken_few;
+            shown_few = x.state.shown_few;
+            shown = x.state.shown ∙ sym (sent_out_later w.setup n x.image word image_is comes);
+            pages = x.state.pages;
+            start = x.state.start;
+          };
         }
+
+    sent_pages : is_free r.state ≡ false → PagesAre w.setup (state_of w).number sent_to number_sent
+    sent_pages used =
+        let x = k.stands.enclaves e.0 used in
+        let image_is : image_of w.setup r.image ≡ x.image = ap (λ o. unwrap_or o (record { entry = 0; pages = [] })) x.image_is in
+        pages_sent w.setup (state_of w).number r n (k.stands.pages e.0) word number_sent x.state.now refl refl refl
+        (ap (λ i. alone (flat_image i) r.sent r.retired) image_is ∙ x.state.alone_is)
 
     send_by : (o : Option No) → send_refusal r ≡ o → Kept digest_of (changes_unless o w hart e.0 sent_to answer_is.Ok)
     send_by (Some cause) is = answers_kept digest_of room_stays w k none hart below (Send e word) (answer_is.No cause) refl here
         (subst (λ b. AllowedAnswer w.setup (state_of w) (Send e word) b (answer_is.No cause)) (sym not_begun) (same_refusal ∙ is)) refl waited
     send_by None is = words_kept digest_of room_stays w k none hart below (Send e word) answer_is.Ok refl here
         (subst (λ b. AllowedAnswer w.setup (state_of w) (Send e word) b answer_is.Ok) (sym not_begun) (same_refusal ∙ is, refl))
-        e.0 there sent_to number_sent refl (record { state = refl; hart = refl; image = refl; pages = refl; context = refl; retired = refl }) refl refl sent_agrees sent_stands waited
+        e.0 there sent_to number_sent refl (record { state = refl; hart = refl; image = refl; pages = refl; parent = refl; context = refl; retired = refl })
+        (record { state = refl; live = refl; pages = refl; retired = refl }) sent_agrees
+        (sent_pages (worded_used r.state (both_pass (is_wordless r.state) (eqb (length r.sent) most_words) NoEnclave Full is).0)) sent_stands waited
 
     pub send_kept : Kept digest_of (sends_word w hart e.0 word).world
     send_kept = send_by (send_refusal r) refl
@@ -160,7 +168,6 @@ module _ (digest_of : List ℕ → List ℕ) (room_stays : RoomStays) (w : World
       live = agrees.live;
       hart = agrees.hart;
       image = agrees.image;
-      pages = agrees.pages;
       given = agrees.given;
       parent = agrees.parent;
       sent = agrees.sent;
@@ -170,7 +177,7 @@ module _ (digest_of : List ℕ → List ℕ) (room_stays : RoomStays) (w : World
 
     -- where words go in and out, as many are shown as the monitor has
     shown_is : EnclaveStands w.setup (written_page w) w.owners e.0 r n → length out_of_monitor ≡ r.shown
-    shown_is x = ap length (sym x.shown) ∙ length-take-le r.shown r.out x.shown_few
+    shown_is x = ap length (sym x.state.shown) ∙ length-take-le r.shown r.out x.state.shown_few
 
     same_take : (b : Bool) → is_wordless r.state ≡ b → monitor.take_refusal w.setup n ≡ take_refusal r
     same_take true is =
@@ -193,15 +200,15 @@ module _ (digest_of : List ℕ → List ℕ) (room_stays : RoomStays) (w : World
       one_shown : r.taken < r.shown
       one_shown =
           let differ : r.taken ≢ r.shown = eqb-false _ _ tests.1 in
-          let few : r.taken ≤ r.shown = x.taken_few in
+          let few : r.taken ≤ r.shown = x.state.taken_few in
           omega arith
 
       one_out : r.taken < length r.out
-      one_out = let a : r.taken < r.shown = one_shown in let b : r.shown ≤ length r.out = x.shown_few in omega arith
+      one_out = let a : r.taken < r.shown = one_shown in let b : r.shown ≤ length r.out = x.state.shown_few in omega arith
 
       taken_is : slice_get out_of_monitor n.taken ≡ Some taken_now
       taken_is =
-          ap (λ xs. slice_get xs n.taken) (sym x.shown) ∙ ap (slice_get (take r.shown r.out)) agrees.taken
+          ap (λ xs. slice_get xs n.taken) (sym x.state.shown) ∙ ap (slice_get (take r.shown r.out)) agrees.taken
           ∙ get-take r.out r.shown r.taken one_shown ∙ some_taken
         where
           some_taken : slice_get r.out r.taken ≡ Some (unwrap_or (slice_get r.out r.taken) 0)
@@ -211,33 +218,33 @@ module _ (digest_of : List ℕ → List ℕ) (room_stays : RoomStays) (w : World
       taken_stands = record {
         image = x.image;
         image_is = x.image_is;
-        count = x.count;
-        own = x.own;
-        apart = x.apart;
-        owned = x.owned;
-        parent = x.parent;
-        spares = x.spares;
-        given = x.given;
-        now = x.now;
-        alone_is = x.alone_is;
-        context = x.context;
-        received = x.received;
-        out = x.out;
-        status = x.status;
-        aligned = x.aligned;
-        taken_few = let h : r.taken < r.shown = one_shown in omega arith;
-        shown_few = x.shown_few;
-        shown = x.shown;
-        pages = x.pages;
-        start = x.start;
+        held = x.held;
+        state = record {
+          now = x.state.now;
+          alone_is = x.state.alone_is;
+          context = x.state.context;
+          received = x.state.received;
+          out = x.state.out;
+          status = x.state.status;
+          aligned = x.state.aligned;
+          taken_few = (let h : r.taken < r.shown = one_shown in omega arith);
+          shown_few = x.state.shown_few;
+          shown = x.state.shown;
+          pages = x.state.pages;
+          start = x.state.start;
+        };
       }
+
+      taken_pages : PagesAre w.setup (state_of w).number taken_from number_taken
+      taken_pages = pages_same w.setup (state_of w).number r taken_from n number_taken
+          (record { image = refl; sent = refl; retired = refl; kinds = refl; left = refl; parent = refl; pages = refl; spares = refl }) (k.stands.pages e.0)
 
       take_done : Kept digest_of (changes_unless None w hart e.0 taken_from (answer_is.Word taken_now))
       take_done = words_kept digest_of room_stays w k none hart below (Take e) (answer_is.Word taken_now) refl here
           (subst (λ b. AllowedAnswer w.setup (state_of w) (Take e) b (answer_is.Word taken_now)) (sym not_begun)
           (same_take (is_wordless r.state) refl ∙ passes, ap (option_map answer_is.Word) taken_is))
-          e.0 there taken_from number_taken refl (record { state = refl; hart = refl; image = refl; pages = refl; context = refl; retired = refl }) refl refl taken_agrees
-          (λ used. taken_stands) waited
+          e.0 there taken_from number_taken refl (record { state = refl; hart = refl; image = refl; pages = refl; parent = refl; context = refl; retired = refl })
+          (record { state = refl; live = refl; pages = refl; retired = refl }) taken_agrees taken_pages (λ used. taken_stands) waited
 
     take_by : (o : Option No) → take_refusal r ≡ o → Kept digest_of (changes_unless o w hart e.0 taken_from (answer_is.Word taken_now))
     take_by (Some cause) is = answers_kept digest_of room_stays w k none hart below (Take e) (answer_is.No cause) refl here

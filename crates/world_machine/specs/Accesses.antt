@@ -1,6 +1,7 @@
 -- Where the accesses of a reached world lead: each root walks to its space, and a walk reads words of guarded pages alone. An access of an
--- enclave number goes to the number's own page, and one of the host to a page of the host, by a mapping that the hart may use.
-use Rattle.std.specs.Prelude.{◌≡◌, ◌⊎◌, ℕ, ◌+◌, ◌%◌, ◌<◌, ◌≤◌, true, false, Option, Some, None, Err, Contains}
+-- enclave number goes to the number's own page, or but for a store to its shadow's, and one of the host to a page of the host, by a mapping that the
+-- hart may use.
+use Rattle.std.specs.Prelude.{◌≡◌, ◌≢◌, ◌⊎◌, ℕ, ◌+◌, ◌%◌, ◌<◌, ◌≤◌, true, false, Option, Some, None, Err, Contains}
 use Rattle.pl_base.specs.Address.{vpn_of}
 use Rattle.pl_base.specs.Perms.{grants}
 use Rattle.pl_base.specs.declared.access.Kind.{Kind}
@@ -24,22 +25,31 @@ use Rattle.mon_host.specs.Laws.{mirror_words}
 use Rattle.mon_tables.specs.Space.{Mapping, mapping_at}
 use Rattle.mon_tables.specs.SpaceWalks.{WalksTo}
 use Rattle.mon_tables.specs.Tables.{root_of}
-use Rattle.pl_history.specs.Monitor.{guard, host, number, pages_taken}
+use Rattle.pl_history.specs.Monitor.{Number, guard, host, number, pages_taken}
+use Rattle.pl_history.specs.NumberSpace.{mappings_of_number}
 use Rattle.pl_history.specs.Protection.{pmp_of}
 use Rattle.pl_history.specs.Rules.{guarded_of, pages_of}
+use Rattle.world_machine.specs.FencesStand.{IsOwed}
+use Rattle.world_machine.specs.LinesUnderWay.{number_under_way}
 use Rattle.world_machine.specs.Making.{image_of}
-use Rattle.world_machine.specs.Pages.{located, numbers_of}
+use Rattle.world_machine.specs.Pages.{reached}
+use Rattle.world_machine.specs.PagesAgree.{PagesAre}
 use Rattle.world_machine.specs.Standing.{state_of}
 use Rattle.world_machine.specs.Translating.{host_view, number_view, offset_at, page_at}
-use Rattle.world_machine.specs.TranslationsAgree.{MayUse, Walking, space_of, walking}
+use Rattle.world_machine.specs.TranslationsAgree.{MayUse, Walking, walking}
 use Rattle.world_machine.specs.Worlds.{WorldData, hart_line, tlb_at, under_at}
 
 -- ---- the roots
 
+-- the root of a number walks to its space, by the pages that it broke so far: those of its record that are spares
+pub record NumberWalks (w : WorldData) (e : ℕ) (r : Enclave) (n : Number) : Type 0 where
+  pub pages : PagesAre w.setup (state_of w).number r n
+  pub walks : WalksTo (mirror_words w.ctl) (root_of w.setup.tables (e + 1)) User (mappings_of_number w.setup (state_of w).number n pages.broken)
+
 -- in checked memory the host's root walks to the host's space, and the root of each live number to its own
 pub record RootsWalk (w : WorldData) : Type 0 where
   pub host : WalksTo (mirror_words w.ctl) (root_of w.setup.tables 0) Super (state_of w).space
-  pub numbers : (e : ℕ) → ((state_of w).number e).live ≡ true → WalksTo (mirror_words w.ctl) (root_of w.setup.tables (e + 1)) User (space_of w.setup (state_of w) e)
+  pub numbers : (e : ℕ) → ((state_of w).number e).live ≡ true → NumberWalks w e (enclave_at w.enclaves e) ((state_of w).number e)
 
 -- ---- what a walk asks for
 
@@ -71,17 +81,24 @@ pub record ForbidsHost (w : WorldData) (hart : ℕ) (kind : Kind) (va : Va) : Ty
   pub vpn : mapping.vpn ≡ (vpn_of va).0
   pub refused : grants mapping.perms kind ≡ false
 
--- the page of a number's record that an access goes to, by the page of its image at that address; none where the image doesn't let it through
+-- the page of a number's record that an access goes to, by the page of its image at that address; none where the image doesn't let it through, or where
+-- it would store to a page that is shared
 abbrev pub image_page : WorldData → ℕ → Kind → Va → Option ℕ
 image_page w e kind va =
     let r : Enclave = enclave_at w.enclaves e in
-    located kind (image_of w.setup r.image).pages (numbers_of r.pages) va.0
+    reached kind (image_of w.setup r.image).pages r.pages va.0
 
--- An enclave number reaches this page, which is its own; the protection entries let every aligned access there through.
+-- a page is the number's own, or of the shadow that it was forked from, which only fetches and loads reach
+abbrev pub MayServe : WorldData → ℕ → Kind → ℕ → Type 0
+MayServe w e access page =
+    ((state_of w).owner page ≡ Some (number e))
+    ⊎ ((shadow : ℕ) × (((state_of w).number e).parent ≡ Some shadow) × ((state_of w).owner page ≡ Some (number shadow)) × (access ≢ kind.Store))
+
+-- An enclave number reaches this page, which is its own or shared; the protection entries let every aligned access there through.
 pub record ReachesNumberPage (w : WorldData) (e : ℕ) (kind : Kind) (va : Va) (pa : Pa) : Type 0 where
   pub page : image_page w e kind va ≡ Some (page_at pa)
   pub is : pa.0 ≡ page_start (page_at pa) + va.0 % 4096
-  pub owner : (state_of w).owner (page_at pa) ≡ Some (number e)
+  pub owner : MayServe w e kind (page_at pa)
   pub allowed : AccessesAllowed (pmp_of w.setup) (page_at pa)
 
 -- the word of a table, as last written, tells the walk that there is no page
@@ -125,19 +142,25 @@ abbrev pub number_walking : WorldData → ℕ → Va → Walk → Walking
 number_walking w e va walk = record { view = number_view w.setup.tables e; va = va; walk = walk }
 
 -- a walk of the host, or of an enclave number that is live
-abbrev pub IsOfHost : WorldData → Walking → Type 0
-IsOfHost w now = now ≡ host_walking w now.va now.walk
+abbrev pub IsHostWalk : WorldData → Walking → Type 0
+IsHostWalk w now = now ≡ host_walking w now.va now.walk
 
-pub record IsOfNumber (w : WorldData) (now : Walking) : Type 0 where
+pub record IsNumberWalk (w : WorldData) (now : Walking) : Type 0 where
   pub e : ℕ
   pub live : ((state_of w).number e).live ≡ true
   pub is : now ≡ number_walking w e now.va now.walk
 
+-- no fence of the number's space needs the hart any more
+abbrev pub HasAcknowledged : WorldData → ℕ → ℕ → Type 0
+HasAcknowledged w hart e = (vpn : ℕ) → IsOwed w.fences hart e vpn → ⊥
+
 -- Each walk under way is the host's or a live number's. On every hart, with any translations that its TLB has, the accesses of the host, of any
--- kind, keep to the host's pages, and those of a live number to its own.
+-- kind, keep to the host's pages, and those of a live number to its own, or but for stores to its shadow's, once the hart has acknowledged the pages
+-- that the number broke; a hart that runs the number has.
 pub record AccessesKeepToPages (w : WorldData) : Type 0 where
-  pub walks : (hart : ℕ) (now : Walking) → walk_of w hart ≡ Some now → IsOfHost w now ⊎ IsOfNumber w now
+  pub walks : (hart : ℕ) (now : Walking) → walk_of w hart ≡ Some now → IsHostWalk w now ⊎ IsNumberWalk w now
   pub host : (hart : ℕ) (kind : Kind) (va : Va) (walk : Walk) → MayGo w hart (host_walking w va walk)
       → HostKeeps w hart kind (host_walking w va walk) (asked w hart kind (host_walking w va walk))
-  pub numbers : (hart e : ℕ) (kind : Kind) (va : Va) (walk : Walk) → ((state_of w).number e).live ≡ true → MayGo w hart (number_walking w e va walk)
-      → NumberKeeps w e kind (number_walking w e va walk) (asked w hart kind (number_walking w e va walk))
+  pub running : (hart e : ℕ) → number_under_way (hart_line w hart) (under_at w.under hart) ≡ Some e → HasAcknowledged w hart e
+  pub numbers : (hart e : ℕ) (kind : Kind) (va : Va) (walk : Walk) → ((state_of w).number e).live ≡ true → HasAcknowledged w hart e
+      → MayGo w hart (number_walking w e va walk) → NumberKeeps w e kind (number_walking w e va walk) (asked w hart kind (number_walking w e va walk))

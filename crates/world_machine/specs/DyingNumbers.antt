@@ -1,11 +1,14 @@
--- Each enclave number that is dying has the fence of its space; there is no other fence than those of such numbers and of open removals.
-use Rattle.std.specs.Prelude.{◌≡◌, ◌⊎◌, ℕ, Some}
+-- Each enclave number that is dying has the fence of its space; each fence is of an open removal, of a number that is given back, or of a page
+-- that was broken.
+use Rattle.std.specs.Prelude.{◌≡◌, ◌⊎◌, ℕ, Some, None}
+use Rattle.pl_base.specs.declared.address.Vpn.{Vpn}
 use Rattle.pl_base.specs.declared.state.State.TheVariants as state_is
 use Rattle.mon_enclave.specs.Records.{enclave_at}
 use Rattle.mon_fence.specs.declared.fences.Fence.{Fence}
 use Rattle.mon_fence.specs.Fences.{fence_of}
 use Rattle.pl_history.specs.declared.line.Line.TheVariants.{Destroy}
-use Rattle.world_machine.specs.declared.under.Under.TheVariants.{Destroying}
+use Rattle.world_machine.specs.declared.under.Under.TheVariants.{Breaking, Destroying}
+use Rattle.world_machine.specs.LinesUnderWay.{number_under_way}
 use Rattle.world_machine.specs.FencesStand.{IsOfNumber, IsOfRemoval, removals_by}
 use Rattle.world_machine.specs.Standing.{state_of}
 use Rattle.world_machine.specs.Worlds.{WorldData, hart_line, under_at}
@@ -14,17 +17,32 @@ use Rattle.world_machine.specs.Worlds.{WorldData, hart_line, under_at}
 abbrev pub Dies : WorldData → ℕ → Type 0
 Dies w e = (enclave_at w.enclaves e).state ≡ state_is.Dying
 
--- a hart gives the number back: its first line without an answer is the `destroy` of it, begun, and its fence is that of the number's whole space
-pub record HasFence (w : WorldData) (e : ℕ) : Type 0 where
-  pub hart : ℕ
+-- a hart gives the number back by a fence: its first line without an answer is the `destroy` of it, begun, and the fence is of the number's whole space
+pub record GivesBack (w : WorldData) (hart e : ℕ) (fence : Fence) : Type 0 where
   pub line : hart_line w hart ≡ Some (Destroy (record { 0 = e }))
   pub begun : under_at w.under hart ≡ Destroying
+  pub of_number : IsOfNumber fence e
+  pub whole : fence.vpn ≡ None
+
+-- a number has the fence of the hart that gives it back
+pub record HasFence (w : WorldData) (e : ℕ) : Type 0 where
+  pub hart : ℕ
   pub fence : Fence
   pub is : fence_of w.fences hart ≡ Some fence
-  pub of_number : IsOfNumber fence e
+  pub gives : GivesBack w hart e fence
 
--- each dying number has its fence; each fence is of the removal that its hart has open, or of a dying number
+-- a hart's enclave broke a page of this number, and starts its instruction anew once nobody is lacking
+pub record BrokeFor (w : WorldData) (hart e : ℕ) (fence : Fence) : Type 0 where
+  pub under_way : number_under_way (hart_line w hart) (under_at w.under hart) ≡ Some e
+  pub count : ℕ
+  pub breaking : under_at w.under hart ≡ Breaking count
+  pub of_number : IsOfNumber fence e
+  pub vpn : Vpn
+  pub of_page : fence.vpn ≡ Some vpn
+
+-- each dying number has its fence; each fence is of the removal that its hart has open, or of a dying number that its hart gives back, or of a page that
+-- its hart's enclave broke
 pub record DyingNumbersFenced (w : WorldData) : Type 0 where
   pub fenced : (e : ℕ) → Dies w e → HasFence w e
   pub others : (hart : ℕ) (fence : Fence) → fence_of w.fences hart ≡ Some fence
-      → IsOfRemoval fence (removals_by (state_of w).removals hart) ⊎ ((e : ℕ) × IsOfNumber fence e × Dies w e)
+      → IsOfRemoval fence (removals_by (state_of w).removals hart) ⊎ ((e : ℕ) × ((GivesBack w hart e fence × Dies w e) ⊎ BrokeFor w hart e fence))

@@ -1,6 +1,8 @@
 -- Each open removal of a hart is of one mapping, its line is the `unmap` of that, and a fence of its page is posted; a hart that gives a number
--- back has posted a fence of its space; there is no other fence.
-use Rattle.std.specs.Prelude.{◌≡◌, ◌⊎◌, ℕ, ◌+◌, ◌==◌, true, List, [], ◌∷◌, length, map, filter, Option, Some, None}
+-- back has posted a fence of its space, and one whose enclave broke a page a fence of that page; there is no other fence.
+use Rattle.std.specs.Prelude.{◌≡◌, ◌⊎◌, ℕ, ◌==◌, true, List, [], ◌∷◌, length, map, filter, Option, Some, None}
+use Rattle.pl_base.specs.HartSet.{space_of_number}
+use Rattle.pl_base.specs.declared.address.Vpn.{Vpn}
 use Rattle.pl_base.specs.declared.perms.Perms.{Perms}
 use Rattle.mon_fence.specs.declared.fences.Fence.{Fence}
 use Rattle.mon_fence.specs.Fences.{AreFences, fence_of, needs}
@@ -8,23 +10,25 @@ use Rattle.mon_host.specs.Leaves.{host_space}
 use Rattle.mon_host.specs.Laws.{new_mapping}
 use Rattle.mon_tables.specs.Space.{Mapping}
 use Rattle.pl_history.specs.declared.line.Line.{Line}
-use Rattle.pl_history.specs.declared.line.Line.TheVariants.{Unmap, Destroy}
+use Rattle.pl_history.specs.declared.line.Line.TheVariants.{Unmap, Destroy, Resume, Run}
 use Rattle.pl_history.specs.Monitor.{Removal}
 use Rattle.world_machine.specs.declared.under.Under.{Under}
-use Rattle.world_machine.specs.declared.under.Under.TheVariants.{Removing, Destroying}
+use Rattle.world_machine.specs.declared.under.Under.TheVariants.{Breaking, Destroying, Removing}
 
 -- the mappings that a hart is taking away
 abbrev pub removals_by : List Removal → ℕ → List Mapping
 removals_by removals hart = map (λ (r : Removal). r.mapping) (filter (λ (r : Removal). r.hart == hart) removals)
 
--- a fence is of the page of the mapping that its hart takes away, or of the whole space of a number
+-- a fence is of the page of the mapping that its hart takes away
 abbrev pub IsOfRemoval : Fence → List Mapping → Type 0
 IsOfRemoval fence removed = (m : Mapping) × (removed ≡ m ∷ []) × (fence.space ≡ host_space) × (fence.vpn ≡ Some (record { 0 = m.vpn }))
 
+-- or of the space of a number
 abbrev pub IsOfNumber : Fence → ℕ → Type 0
-IsOfNumber fence e = (fence.space ≡ record { 0 = e + 1 }) × (fence.vpn ≡ None)
+IsOfNumber fence e = fence.space ≡ space_of_number (record { 0 = e })
 
--- a hart without a fence takes nothing away; one with a fence takes away the mapping of its page, or none, where it gives a number back
+-- a hart without a fence takes nothing away; one with a fence takes away the mapping of its page, or none, where it gives a number back or broke a
+-- page of one
 abbrev pub FenceStands : Option Fence → List Mapping → Type 0
 FenceStands None removed = removed ≡ []
 FenceStands (Some fence) removed = IsOfRemoval fence removed ⊎ ((e : ℕ) × IsOfNumber fence e × (removed ≡ []))
@@ -39,21 +43,38 @@ abbrev pub RemovalStands : Option Line → Under → List Mapping → Type 0
 RemovalStands (Some (Unmap va)) (Removing page) removed = (perms : Perms) × (removed ≡ new_mapping va page perms ∷ [])
 RemovalStands line under removed = removed ≡ []
 
--- a begun `destroy` has the fence of its number's space; the fence of any other line is none, or of the host's space
+-- a begun `destroy` has the fence of its number's whole space, and a run that broke a page that of a page there; the fence of any other line is
+-- none, or of the host's space
 abbrev pub IsOfHost : Option Fence → Type 0
 IsOfHost None = Unit {0}
 IsOfHost (Some fence) = fence.space ≡ host_space
 
-abbrev pub GivingStands : Option Line → Under → Option Fence → Type 0
-GivingStands (Some (Destroy e)) Destroying fence = (f : Fence) × (fence ≡ Some f) × IsOfNumber f e.0
-GivingStands line under fence = IsOfHost fence
+pub record IsGiving (fence : Option Fence) (e : ℕ) : Type 0 where
+  pub posted : Fence
+  pub is : fence ≡ Some posted
+  pub of_number : IsOfNumber posted e
+  pub whole : posted.vpn ≡ None
 
--- a number is being given back, and the fence of its space still needs this hart
-pub record IsLeaving (fences : List (Option Fence)) (hart e : ℕ) : Type 0 where
+pub record IsBreaking (fence : Option Fence) (e : ℕ) : Type 0 where
+  pub posted : Fence
+  pub is : fence ≡ Some posted
+  pub of_number : IsOfNumber posted e
+  pub vpn : Vpn
+  pub of_page : posted.vpn ≡ Some vpn
+
+abbrev pub NumberFenceStands : Option Line → Under → Option Fence → Type 0
+NumberFenceStands (Some (Destroy e)) Destroying fence = IsGiving fence e.0
+NumberFenceStands (Some (Run e budget)) (Breaking count) fence = IsBreaking fence e.0
+NumberFenceStands (Some (Resume e budget)) (Breaking count) fence = IsBreaking fence e.0
+NumberFenceStands line under fence = IsOfHost fence
+
+-- a fence of this page of a number's space, or of that whole space, still needs this hart
+pub record IsOwed (fences : List (Option Fence)) (hart e vpn : ℕ) : Type 0 where
   pub poster : ℕ
   pub fence : Fence
   pub is : fence_of fences poster ≡ Some fence
   pub of_number : IsOfNumber fence e
+  pub of_page : (fence.vpn ≡ None) ⊎ (fence.vpn ≡ Some (record { 0 = vpn }))
   pub needed : needs (fence_of fences poster) hart ≡ true
 
 -- a mapping is being taken away, and the fence of that still needs this hart

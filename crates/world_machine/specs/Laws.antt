@@ -37,7 +37,8 @@ MovesLessen =
 abbrev pub HartsWaitForFences : Type 0
 HartsWaitForFences =
     (digest_of : List ℕ → List ℕ) → ((m : List ℕ) → length (digest_of m) ≡ 32) → (w : WorldData) → Reached digest_of w → w.collision ≡ None
-    → (h : HartNo) (positions : List ℕ) (harts : HartSet) → (turned_by (turn_of digest_of w (Hart h) positions) ≡ turned.Blocked (Acks harts)) ↔ (lacking (fence_of w.fences h.0) ≡ Some harts)
+    → (h : HartNo) (positions : List ℕ) (harts : HartSet)
+    → (turned_by (turn_of digest_of w (Hart h) positions) ≡ turned.Blocked (Acks harts)) ↔ (lacking (fence_of w.fences h.0) ≡ Some harts)
 
 -- Of every world that is reached: where no answer is `wrote 1`, no answer is a fault, and no collision is kept.
 abbrev pub UnattackedIsUndisturbed : Type 0
@@ -49,9 +50,11 @@ UnattackedIsUndisturbed =
 abbrev pub RootsWalkToSpaces : Type 0
 RootsWalkToSpaces = (digest_of : List ℕ → List ℕ) → ((m : List ℕ) → length (digest_of m) ≡ 32) → (w : WorldData) → Reached digest_of w → RootsWalk w
 
--- Of every world that is reached: each walk reads words of guarded pages alone, and each access goes to a page of whoever makes it.
+-- Of every world that is reached: each walk reads words of guarded pages alone, and each access goes to a page of whoever makes it, or one but for a
+-- store to a page of the shadow that its number was forked from.
 abbrev pub AccessesReachOwnPages : Type 0
-AccessesReachOwnPages = (digest_of : List ℕ → List ℕ) → ((m : List ℕ) → length (digest_of m) ≡ 32) → (w : WorldData) → Reached digest_of w → AccessesKeepToPages w
+AccessesReachOwnPages =
+    (digest_of : List ℕ → List ℕ) → ((m : List ℕ) → length (digest_of m) ≡ 32) → (w : WorldData) → Reached digest_of w → AccessesKeepToPages w
 
 -- In every legal history no access of the host uses a mapping whose removal was answered.
 abbrev pub RemovedMappingsStayUnused : Type 0

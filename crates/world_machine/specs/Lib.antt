@@ -20,6 +20,7 @@ pub mod Making
 pub mod NumberImages
 pub mod NumberLaws
 pub mod Pages
+pub mod PagesAgree
 pub mod Reached
 pub mod RecordsAgree
 pub mod Running
@@ -32,5 +33,4 @@ pub mod TablesAgree
 pub mod Talking
 pub mod Translating
 pub mod TranslationsAgree
-pub mod Unbuilt
 pub mod Worlds

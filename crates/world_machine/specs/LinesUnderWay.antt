@@ -1,5 +1,6 @@
 -- What holds of each hart's line that has begun, and that no two harts have one number under way.
-use Rattle.std.specs.Prelude.{◌≡◌, ℕ, ◌+◌, ◌%◌, ◌<◌, false, List, length, map, Option, Some, None}
+use Rattle.std.specs.Prelude.{◌≡◌, ℕ, ◌+◌, ◌%◌, ◌<◌, ◌≤◌, Bool, true, false, is_some, List, length, map, Option, Some, None}
+use Rattle.std.specs.List.{All}
 use Rattle.pl_base.specs.declared.access.Kind.{Kind}
 use Rattle.pl_base.specs.declared.access.Kind.TheVariants as kind
 use Rattle.pl_base.specs.declared.state.State.TheVariants as state_is
@@ -9,25 +10,31 @@ use Rattle.rv_alone.specs.Effect.{act_of}
 use Rattle.rv_alone.specs.Flat.{fetched}
 use Rattle.rv_hart.specs.declared.walks.Micro.{Micro}
 use Rattle.rv_hart.specs.declared.walks.Micro.TheVariants.{Fetching, Reaching, Faulting}
+use Rattle.rv_hart.specs.declared.walks.Walk.TheVariants.{Start}
 use Rattle.mon_enclave.specs.declared.enclave.Enclave.{Enclave}
 use Rattle.mon_enclave.specs.declared.enclave.PageKind.TheVariants.{Own}
+use Rattle.mon_enclave.specs.Records.{is_shared}
 use Rattle.mon_image.specs.declared.page.ImagePage.{ImagePage}
 use Rattle.mon_life.specs.Pages.{PagePut, page_put_at}
 use Rattle.mon_life.specs.Putting.{steps_of}
 use Rattle.pl_history.specs.declared.line.Line.{Line}
-use Rattle.pl_history.specs.declared.line.Line.TheVariants.{Load, Store, Unmap, Create, Run, Resume, Destroy}
+use Rattle.pl_history.specs.declared.line.Line.TheVariants.{Load, Store, Unmap, Create, Shadow, Fork, Run, Resume, Destroy}
 use Rattle.pl_history.specs.declared.setup.SetupParts.{SetupParts}
 use Rattle.pl_history.specs.Monitor.{Number}
 use Rattle.world_machine.specs.declared.under.Under.{Under}
-use Rattle.world_machine.specs.declared.under.Under.TheVariants.{Idle, Seeking, Removing, Destroying, Putting, Running}
+use Rattle.world_machine.specs.declared.under.Under.TheVariants.{Idle, Seeking, Removing, Destroying, Putting, Running, Breaking}
 use Rattle.world_machine.specs.Making.{image_of}
-use Rattle.world_machine.specs.Pages.{flat_pages, located, numbers_of}
+use Rattle.world_machine.specs.Pages.{flat_pages, numbers_of, reached}
 
 -- the number that a begun line has under way
 abbrev pub number_under_way : Option Line → Under → Option ℕ
 number_under_way (Some (Create e image pages)) (Putting done) = Some e.0
+number_under_way (Some (Shadow e image pages)) (Putting done) = Some e.0
+number_under_way (Some (Fork shadow e pages)) (Putting done) = Some e.0
 number_under_way (Some (Run e budget)) (Running micro count) = Some e.0
+number_under_way (Some (Run e budget)) (Breaking count) = Some e.0
 number_under_way (Some (Resume e budget)) (Running micro count) = Some e.0
+number_under_way (Some (Resume e budget)) (Breaking count) = Some e.0
 number_under_way (Some (Destroy e)) Destroying = Some e.0
 number_under_way line under = None
 
@@ -39,13 +46,29 @@ NumbersApart under_way = (hart other e : ℕ) → under_way hart ≡ Some e → 
 abbrev pub HasBytes : (ℕ → List ℕ) → PagePut → Type 0
 HasBytes bytes_of put = bytes_of put.page ≡ put.bytes
 
--- a number that is being made, of which so many steps are done: each page that they put has its bytes, as last written
-pub record IsPutting (setup : SetupParts) (bytes_of : ℕ → List ℕ) (r : Enclave) (e image : ℕ) (pages : List ℕ) (done : ℕ) : Type 0 where
+-- A number is being made of an image. Of the steps that put a page each, those from `first` on and below `done` are done: each page that they put has
+-- its bytes, as last written.
+pub record IsPutting (setup : SetupParts) (bytes_of : ℕ → List ℕ) (r : Enclave) (e image : ℕ) (shadow : Bool) (first done : ℕ) : Type 0 where
   pub state : r.state ≡ state_is.Building
   pub image_is : r.image ≡ image
+  pub few : done < steps_of shadow (length (image_of setup image).pages)
+  pub put : (at : ℕ) → first ≤ at → at < done → HasBytes bytes_of (page_put_at setup.tables e (image_of setup image) r.pages at)
+
+-- it is made from the first step on, into these pages of its own
+pub record IsBuilding (setup : SetupParts) (bytes_of : ℕ → List ℕ) (r : Enclave) (e image : ℕ) (shadow : Bool) (pages : List ℕ) (done : ℕ) : Type 0 where
   pub pages_are : r.pages ≡ map Own pages
-  pub few : done < steps_of false (length (image_of setup image).pages)
-  pub put : (at : ℕ) → at < done → HasBytes bytes_of (page_put_at setup.tables e (image_of setup image) r.pages at)
+  pub putting : IsPutting setup bytes_of r e image shadow 0 done
+
+-- the number of the step that puts the first table: those below it put the image's pages
+abbrev pub first_table_step : SetupParts → Enclave → ℕ
+first_table_step setup r = length (image_of setup r.image).pages
+
+-- a fork is made from that step on: all pages of the image are the shadow's
+pub record IsForking (setup : SetupParts) (bytes_of : ℕ → List ℕ) (r : Enclave) (e : ℕ) (done : ℕ) : Type 0 where
+  pub forked : is_some r.parent ≡ true
+  pub shared : All (λ kind. is_shared kind ≡ true) r.pages
+  pub from : first_table_step setup r ≤ done
+  pub putting : IsPutting setup bytes_of r e r.image false (first_table_step setup r) done
 
 -- the access to data of an instruction: of this kind, at this address
 abbrev pub access_of : Act → Option (Kind × ℕ)
@@ -67,7 +90,7 @@ IsAccessed image bytes_of r va access = (word : ℕ) × MakesAccess image bytes_
 abbrev pub InstructionStands : List ImagePage → (ℕ → List ℕ) → Enclave → Micro → Type 0
 InstructionStands image bytes_of r (Fetching walk) = Unit {0}
 InstructionStands image bytes_of r (Reaching word walk) = (access : Kind × ℕ) × MakesAccess image bytes_of r word access
-InstructionStands image bytes_of r (Faulting va access) = IsAccessed image bytes_of r va access × (located access image (numbers_of r.pages) va ≡ None)
+InstructionStands image bytes_of r (Faulting va access) = IsAccessed image bytes_of r va access × (reached access image r.pages va ≡ None)
 
 -- an enclave that runs on this hart, with budget left; so many instructions retired since the line began
 pub record IsRunning (setup : SetupParts) (bytes_of : ℕ → List ℕ) (r : Enclave) (n : Number) (hart budget count : ℕ) (micro : Micro) : Type 0 where
@@ -83,10 +106,16 @@ LineUnderWay setup bytes_of record_of number hart line Idle = Unit {0}
 LineUnderWay setup bytes_of record_of number hart (Some (Load va)) (Seeking walk) = va.0 % 8 ≡ 0
 LineUnderWay setup bytes_of record_of number hart (Some (Store va word)) (Seeking walk) = va.0 % 8 ≡ 0
 LineUnderWay setup bytes_of record_of number hart (Some (Unmap va)) (Removing page) = Unit {0}
-LineUnderWay setup bytes_of record_of number hart (Some (Create e image pages)) (Putting done) = IsPutting setup bytes_of (record_of e.0) e.0 image pages done
+LineUnderWay setup bytes_of record_of number hart (Some (Create e image pages)) (Putting done) = IsBuilding setup bytes_of (record_of e.0) e.0 image false pages done
+LineUnderWay setup bytes_of record_of number hart (Some (Shadow e image pages)) (Putting done) = IsBuilding setup bytes_of (record_of e.0) e.0 image true pages done
+LineUnderWay setup bytes_of record_of number hart (Some (Fork shadow e pages)) (Putting done) = IsForking setup bytes_of (record_of e.0) e.0 done
 LineUnderWay setup bytes_of record_of number hart (Some (Run e budget)) (Running micro count) =
     IsRunning setup bytes_of (record_of e.0) (number e.0) hart budget count micro
+LineUnderWay setup bytes_of record_of number hart (Some (Run e budget)) (Breaking count) =
+    IsRunning setup bytes_of (record_of e.0) (number e.0) hart budget count (Fetching Start)
 LineUnderWay setup bytes_of record_of number hart (Some (Resume e budget)) (Running micro count) =
     IsRunning setup bytes_of (record_of e.0) (number e.0) hart budget count micro
+LineUnderWay setup bytes_of record_of number hart (Some (Resume e budget)) (Breaking count) =
+    IsRunning setup bytes_of (record_of e.0) (number e.0) hart budget count (Fetching Start)
 LineUnderWay setup bytes_of record_of number hart (Some (Destroy e)) Destroying = (record_of e.0).state ≡ state_is.Dying
 LineUnderWay setup bytes_of record_of number hart line under = ⊥

@@ -1,6 +1,6 @@
 -- An enclave number that is used again is its new image alone: nothing is left of what it was before.
-use Rattle.std.specs.Prelude.{◌≡◌, ℕ, ◌+◌, true, false, [], slice_get, Some, None, Contains}
-use Rattle.pl_base.specs.States.{is_free}
+use Rattle.std.specs.Prelude.{◌≡◌, ℕ, ◌+◌, ◌||◌, Bool, true, false, List, [], slice_get, Some, None, Contains, option_map}
+use Rattle.pl_base.specs.States.{is_free, is_sealed}
 use Rattle.pl_base.specs.declared.state.State.TheVariants as state_is
 use Rattle.rv_alone.specs.Alone.{alone, context_of}
 use Rattle.rv_alone.specs.Flat.{Flat, start_of}
@@ -11,22 +11,24 @@ use Rattle.mon_image.specs.declared.image.Image.{Image}
 use Rattle.pl_history.specs.Monitor.{flat_image}
 use Rattle.world_machine.specs.Accesses.{walk_of}
 use Rattle.world_machine.specs.EnclavesAgree.{is_dying}
-use Rattle.world_machine.specs.Pages.{flat_pages}
+use Rattle.world_machine.specs.Pages.{flat_pages, numbers_of}
+use Rattle.world_machine.specs.PagesAgree.{AreBroken, kinds_of}
 use Rattle.world_machine.specs.RecordsAgree.{RetiredAgrees}
 use Rattle.world_machine.specs.SinceMade.{SinceMade, never_made, since_made}
 use Rattle.world_machine.specs.Standing.{written_page}
 use Rattle.world_machine.specs.TranslationsAgree.{Walking}
 use Rattle.world_machine.specs.Worlds.{WorldData, tlb_at}
 
--- what the world's history says of a number since the newest `create` of it began
+-- what the world's history says of each number since the newest line that makes it began
 abbrev pub since_of : WorldData → ℕ → SinceMade
-since_of w e = since_made w.setup e never_made w.history.entries
+since_of w = since_made w.setup (λ e. never_made) w.history.entries
 
 -- ---- a number that isn't in use
 
--- its record has no pages and no parent, no spares were given to it, no words sent or taken, and no instruction of it has retired
+-- its record has no pages, no spares and no parent, no spares were given to it, no words sent or taken, and no instruction of it has retired
 pub record HasNothing (r : Enclave) : Type 0 where
   pub pages : r.pages ≡ []
+  pub spares : r.spares ≡ []
   pub given : r.given ≡ 0
   pub parent : r.parent ≡ None
   pub sent : r.sent ≡ []
@@ -40,10 +42,19 @@ pub record IsUntranslated (w : WorldData) (e : ℕ) : Type 0 where
 
 -- ---- a number that is
 
--- The record is that of one image, run alone with these words for so many instructions: the image of the newest `create` of the number in the
--- history, and the words sent since that began. The instructions are those that retired since, which the history has but for the ones of a run
+-- The pages of a number: those that its line names, or of a forked number the shadow's, but for the ones that it broke: the k-th of these is the k-th
+-- spare. It broke those that its instructions stored to, in order of the first store, and at most the one that the next instruction stores to.
+pub record HasPagesOf (w : WorldData) (image : Image) (now : Flat) (r : Enclave) (since : SinceMade) : Type 0 where
+  pub broken : List ℕ
+  pub ahead : Bool
+  pub so_far : AreBroken since.parent (flat_image image) since.sent r.retired ahead broken
+  pub pages : r.pages ≡ kinds_of since.pages since.spares broken (option_map (λ shadow. (since_of w shadow).pages) since.parent)
+  pub bytes : now.pages ≡ flat_pages (written_page w) image.pages (numbers_of r.pages)
+
+-- The record is that of one image, run alone with these words for so many instructions: the image of the newest line in the history that makes the
+-- number, and the words sent since that began. The instructions are those that retired since, which the history has but for the ones of a run
 -- that is under way. Registers, pc, and received and sent out words are those of the image; so are the bytes of its pages, as last written, while the
--- number is live, which are the ones that the `create` names. A number that isn't live yet is at the start of the image.
+-- number is live or a sealed shadow. A number that isn't live yet is at the start of the image.
 pub record IsItsImage (w : WorldData) (r : Enclave) (since : SinceMade) : Type 0 where
   pub image : Image
   pub image_is : slice_get w.setup.images since.image ≡ Some image
@@ -53,7 +64,7 @@ pub record IsItsImage (w : WorldData) (r : Enclave) (since : SinceMade) : Type 0
   pub context : r.context ≡ context_of now
   pub received : r.received ≡ now.received
   pub out : r.out ≡ now.out
-  pub pages : since.live ≡ true → now.pages ≡ flat_pages (written_page w) image.pages since.pages
+  pub pages : since.live || is_sealed r.state ≡ true → HasPagesOf w image now r since
   pub start : since.live ≡ false → is_dying r.state ≡ false → now ≡ start_of (flat_image image)
 
 -- ---- all of them

@@ -5,12 +5,12 @@ use Rattle.world_machine.specs.NumberImages.{EachIsItsImage}
 use Rattle.world_machine.specs.Reached.{Reached}
 use Rattle.world_machine.specs.Worlds.{WorldData}
 
--- Of every world that is reached: each dying number has the fence of its space, and there is no other fence than those and the ones of open
--- removals.
+-- Of every world that is reached: each dying number has the fence of its space, and each fence is of an open removal, of a number that is given
+-- back, or of a page that was broken.
 abbrev pub DyingNumbersHaveFences : Type 0
 DyingNumbersHaveFences = (digest_of : List ℕ → List ℕ) → ((m : List ℕ) → length (digest_of m) ≡ 32) → (w : WorldData) → Reached digest_of w → DyingNumbersFenced w
 
 -- Of every world that is reached: a number that is free has nothing, one that is neither live nor given back has no translations, and one that
--- isn't free is the image of its newest `create` alone.
+-- isn't free is the image of the newest line that made it alone.
 abbrev pub NumbersAreTheirImages : Type 0
 NumbersAreTheirImages = (digest_of : List ℕ → List ℕ) → ((m : List ℕ) → length (digest_of m) ≡ 32) → (w : WorldData) → Reached digest_of w → EachIsItsImage w

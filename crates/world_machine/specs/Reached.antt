@@ -10,15 +10,13 @@ use Rattle.world_machine.specs.declared.under.Under.TheVariants.{Idle}
 use Rattle.world_machine.specs.ByteBounds.{AreImageBytes}
 use Rattle.world_machine.specs.LineNumbers.{ScriptsFit}
 use Rattle.world_machine.specs.Steps.{AllFit, Step, replay_from}
-use Rattle.world_machine.specs.Unbuilt.{first_unbuilt_of}
 use Rattle.world_machine.specs.Worlds.{WorldData}
 
--- a setup that can be run: it meets the rules, its images' bytes are bytes, the numbers of its lines are below 2^32, and each of its lines is built
+-- a setup that can be run: it meets the rules, its images' bytes are bytes, and the numbers of its lines are below 2^32
 pub record CanRun (setup : SetupParts) : Type 0 where
   pub rules : IsSetup setup
   pub bytes : AreImageBytes setup.images
   pub lines_fit : ScriptsFit setup.lines
-  pub built : first_unbuilt_of setup ≡ None
 
 module _ (digest_of : List ℕ → List ℕ) where
   -- The world that a run of a setup begins with: the start words of the host's tables in the guarded pages, nothing mounted; guarded pages

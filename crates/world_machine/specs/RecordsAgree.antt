@@ -9,7 +9,6 @@ use Rattle.mon_owner.specs.declared.owners.Owner.TheVariants as kept
 use Rattle.pl_history.specs.Monitor.{Monitor, Number, Owner, Progress, guard, host, number, maps_of}
 use Rattle.world_machine.specs.declared.under.Under.{Under}
 use Rattle.world_machine.specs.declared.under.Under.TheVariants.{Idle, Seeking}
-use Rattle.world_machine.specs.Pages.{numbers_of}
 use Rattle.world_machine.specs.Worlds.{answered_at, under_at}
 
 -- ---- owners
@@ -49,7 +48,6 @@ pub record RecordAgrees (r : Enclave) (n : Number) : Type 0 where
   pub live : LiveAgrees r.state n.live
   pub hart : n.hart ≡ r.hart.0
   pub image : n.image ≡ r.image
-  pub pages : n.pages ≡ numbers_of r.pages
   pub given : length n.spares ≡ r.given
   pub parent : n.parent ≡ parent_of r.parent
   pub sent : n.sent ≡ r.sent

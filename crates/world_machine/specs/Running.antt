@@ -1,7 +1,11 @@
--- The events of `run` and `resume`: the monitor step that begins, the words of walks, the fetch, the access to data, the page fault.
-use Rattle.std.specs.Prelude.{ℕ, ◌+◌, ◌%◌, ◌==◌, Bool, if◌then◌else◌, List, [], ◌∷◌, ◌++◌, length, Option, Some, None, option_map, Result, Ok, Err}
+-- The events of `run` and `resume`: the monitor step that begins, the words of walks, the fetch, the access to data, the page fault, the break of a
+-- page and the start anew after it.
+use Rattle.std.specs.Prelude.{ℕ, ◌+◌, ◌%◌, ◌==◌, Bool, if◌then◌else◌, List, [], ◌∷◌, ◌++◌, length, slice_get, slice_set, Option, Some, None, option_map, Result, Ok, Err}
+use Rattle.std.specs.Option.{option_map_or}
+use Rattle.pl_base.specs.HartSet.{space_of_number}
 use Rattle.pl_base.specs.declared.access.Kind.{Kind}
 use Rattle.pl_base.specs.declared.access.Kind.TheVariants as kind
+use Rattle.pl_base.specs.declared.perms.Perms.{Perms}
 use Rattle.pl_base.specs.declared.place.Place.{Place}
 use Rattle.pl_base.specs.declared.state.Why.{Why}
 use Rattle.pl_base.specs.declared.state.Why.TheVariants as why_is
@@ -19,14 +23,18 @@ use Rattle.mem_ctl.specs.Calls.{read_word_of, write_part_of}
 use Rattle.mem_ctl.specs.Data.{going}
 use Rattle.mon_enclave.specs.declared.enclave.Enclave.{Enclave}
 use Rattle.mon_enclave.specs.Records.{enclave_at, with_enclave, has_room, received_word}
+use Rattle.mon_image.specs.declared.page.ImagePage.{ImagePage}
 use Rattle.mon_life.specs.Running.{RunBegun, run_begun}
+use Rattle.mon_shadow.specs.Breaking.{PageBroken, page_broken, vpn_of_page}
 use Rattle.pl_history.specs.declared.answer.Answer.TheVariants as answer_is
-use Rattle.world_machine.specs.declared.under.Under.TheVariants.{Running}
-use Rattle.world_machine.specs.Answering.{accesses, answers, goes_on, quiet}
-use Rattle.world_machine.specs.Making.{begins_unless}
-use Rattle.world_machine.specs.Pages.{fault_cause, part_of_word, word_offset}
+use Rattle.pl_history.specs.declared.setup.SetupParts.{SetupParts}
+use Rattle.world_machine.specs.declared.under.Under.TheVariants.{Breaking, Running}
+use Rattle.world_machine.specs.Acknowledging.{without_covered}
+use Rattle.world_machine.specs.Answering.{accesses, answers, decided, goes_on, quiet}
+use Rattle.world_machine.specs.Making.{begins_unless, image_of}
+use Rattle.world_machine.specs.Pages.{fault_cause, part_of_word, to_break, word_offset}
 use Rattle.world_machine.specs.Translating.{Request, number_view, page_at, reads_table, sought_in, translated}
-use Rattle.world_machine.specs.Worlds.{Event, WorldData}
+use Rattle.world_machine.specs.Worlds.{Event, WorldData, tlb_at, with_tlb}
 
 -- A run under way: its hart, its number, the budget, and how many instructions retired since the line began.
 pub record RunNow : Type 0 where
@@ -107,13 +115,46 @@ abbrev pub run_learns : RunNow → (Walk → Micro) → ℕ → Kind → WorldDa
 run_learns run on va access w (Ok walk) = goes_on w run.hart (Running (on walk) run.count)
 run_learns run on va access w (Err none) = goes_on w run.hart (Running (Faulting va access) run.count)
 
-abbrev pub page_faults : WorldData → RunNow → Enclave → Kind → ℕ → Event
-page_faults w run r access address = quiet (traps w run r (fault_cause access) address)
+-- ---- breaking a page: a forked number's store to a page that it shares
+
+-- what may be done with page `index` of the image of a number
+abbrev pub perms_at : SetupParts → Enclave → ℕ → Perms
+perms_at setup r index = option_map_or (λ (page : ImagePage). page.perms) (slice_get (image_of setup r.image).pages index) (record { 0 = 0 })
+
+-- the hart's own translation of the page is dropped, and the instruction starts anew once nobody is lacking
+abbrev pub breaks_done : WorldData → RunNow → ℕ → WorldData
+breaks_done w run index =
+    goes_on (with_tlb w run.hart (without_covered (tlb_at w.tlbs run.hart) (space_of_number (record { 0 = run.e })) (Some (vpn_of_page index)))) run.hart (Breaking run.count)
+
+-- the instruction starts anew, and the hart leaves its fence
+abbrev pub restarts : WorldData → ℕ → ℕ → WorldData
+restarts w hart count = goes_on (record w { fences = slice_set w.fences hart None }) hart (Running (Fetching Start) count)
 
 module _ (digest_of : List ℕ → List ℕ) where
+  -- the shared page is copied into the next spare, which takes its place
+  abbrev pub breaks_page : WorldData → RunNow → Enclave → List ℕ → ℕ → Event
+  breaks_page w run r positions index =
+      let broken : PageBroken = page_broken digest_of w.setup.tables run.hart (record { 0 = run.e }) index (perms_at w.setup r index) w.enclaves w.fences (going w.ctl positions) in
+      let left : WorldData = record w { ctl = broken.step.after.ctl; enclaves = broken.enclaves; fences = broken.fences } in
+      record { world = decided left (λ done. breaks_done left run index) (faults run r left) broken.step.outcome; shown = broken.step.after.shown }
+
+  -- a page is to be broken: that needs a spare
+  abbrev pub breaks_or_leaves : WorldData → RunNow → Enclave → List ℕ → ℕ → List ℕ → Event
+  breaks_or_leaves w run r positions index [] = quiet (leaves w run r run.count why_is.NeedPage)
+  breaks_or_leaves w run r positions index (spare ∷ spares) = breaks_page w run r positions index
+
+  -- no page serves an access: the monitor's step breaks a page, or the run leaves by a page fault
+  abbrev pub faults_by : WorldData → RunNow → Enclave → List ℕ → Kind → ℕ → Option ℕ → Event
+  faults_by w run r positions access address None = quiet (traps w run r (fault_cause access) address)
+  faults_by w run r positions access address (Some index) = breaks_or_leaves w run r positions index r.spares
+
+  abbrev pub page_faults : WorldData → RunNow → Enclave → List ℕ → Kind → ℕ → Event
+  page_faults w run r positions access address =
+      faults_by w run r positions access address (to_break access (image_of w.setup r.image).pages r.pages address)
+
   -- the word at pc is read through the trees, in this page
   abbrev pub fetched_in : WorldData → RunNow → Enclave → List ℕ → Option ℕ → Event
-  fetched_in w run r positions None = page_faults w run r kind.Fetch r.context.pc
+  fetched_in w run r positions None = page_faults w run r positions kind.Fetch r.context.pc
   fetched_in w run r positions (Some page) =
       accesses w (read_word_of digest_of page (word_offset r.context.pc) (going w.ctl positions))
       (λ left eight. let word : ℕ = part_of_word eight r.context.pc 4 in acts left run r word (act_of r.context word))
@@ -122,14 +163,14 @@ module _ (digest_of : List ℕ → List ℕ) where
   -- ---- the data
 
   abbrev pub loads_in : WorldData → RunNow → Enclave → List ℕ → ℕ → ℕ → Bool → ℕ → Option ℕ → Event
-  loads_in w run r positions address width is_signed rd None = page_faults w run r kind.Load address
+  loads_in w run r positions address width is_signed rd None = page_faults w run r positions kind.Load address
   loads_in w run r positions address width is_signed rd (Some page) =
       accesses w (read_word_of digest_of page (word_offset address) (going w.ctl positions))
       (λ left eight. retires left run (retired_with r (loaded r.context rd width is_signed (part_of_word eight address width))))
       (faults run r)
 
   abbrev pub stores_in : WorldData → RunNow → Enclave → List ℕ → ℕ → ℕ → ℕ → Option ℕ → Event
-  stores_in w run r positions address width value None = page_faults w run r kind.Store address
+  stores_in w run r positions address width value None = page_faults w run r positions kind.Store address
   stores_in w run r positions address width value (Some page) =
       accesses w (write_part_of digest_of page (address % 4096) width value (going w.ctl positions))
       (λ left done. retires left run (retired_with r (advanced r.context)))
@@ -152,12 +193,11 @@ module _ (digest_of : List ℕ → List ℕ) where
       run_translates w run r positions (Reaching word) walk address kind.Store (stores_in w run r positions address width value)
   reaches w run r positions word walk act = quiet w
 
-  -- the next event of a run, by where its instruction is. Where no page serves an access, the event is the monitor's step that traps,
-  -- without a path.
+  -- the next event of a run, by where its instruction is. Where no page serves an access, the event is the monitor's step.
   abbrev pub run_event : WorldData → RunNow → Enclave → List ℕ → Micro → Event
   run_event w run r positions (Fetching walk) = run_translates w run r positions Fetching walk r.context.pc kind.Fetch (fetched_in w run r positions)
   run_event w run r positions (Reaching word walk) = reaches w run r positions word walk (act_of r.context word)
-  run_event w run r positions (Faulting va access) = page_faults w run r access va
+  run_event w run r positions (Faulting va access) = page_faults w run r positions access va
 
 -- `run` begins, and `resume`, which isn't the first run
 abbrev pub begin_run : WorldData → ℕ → ℕ → Bool → Event

@@ -3,12 +3,15 @@ use Rattle.std.specs.Prelude.{◌≡◌, ℕ, ◌+◌, ◌-◌, ◌*◌, ◌==�
 use Rattle.std.specs.List.{list_all, range_with_len}
 use Rattle.pl_base.specs.declared.actor.Actor.{Actor}
 use Rattle.pl_base.specs.declared.actor.Actor.TheVariants.{Hart, Ack, Attacker}
+use Rattle.pl_base.specs.declared.page.TheConstants.{MOST_IMAGE_PAGES}
 use Rattle.mem_slots.specs.declared.slot_use.SlotUse.{SlotUse}
 use Rattle.mon_life.specs.Putting.{steps_of}
 use Rattle.rv_hart.specs.declared.walks.Micro.{Micro}
 use Rattle.rv_hart.specs.declared.walks.Micro.TheVariants.{Fetching, Reaching, Faulting}
 use Rattle.rv_hart.specs.declared.walks.Walk.{Walk}
 use Rattle.rv_hart.specs.declared.walks.Walk.TheVariants.{Start, Level, Found}
+use Rattle.mon_enclave.specs.declared.enclave.Enclave.{Enclave}
+use Rattle.mon_enclave.specs.Records.{is_shared}
 use Rattle.mon_fence.specs.declared.fences.Fence.{Fence}
 use Rattle.mon_fence.specs.Fences.{needs}
 use Rattle.pl_history.specs.declared.line.Line.{Line}
@@ -21,7 +24,7 @@ use Rattle.world_machine.specs.declared.turned.Turned.{Turned}
 use Rattle.world_machine.specs.declared.turned.Turned.TheVariants.{Moved, Blocked, Nothing, Done, Halted}
 use Rattle.world_machine.specs.declared.turned.Wait.TheVariants.{Acks, After}
 use Rattle.world_machine.specs.declared.under.Under.{Under}
-use Rattle.world_machine.specs.declared.under.Under.TheVariants.{Idle, Seeking, Removing, Destroying, Putting, Running}
+use Rattle.world_machine.specs.declared.under.Under.TheVariants.{Idle, Seeking, Removing, Destroying, Putting, Running, Breaking}
 use Rattle.world_machine.specs.Making.{image_of}
 use Rattle.world_machine.specs.Steps.{Ran, actor_turn, turned_by}
 use Rattle.world_machine.specs.Worlds.{WorldData, answered_at, hart_line, under_at}
@@ -85,15 +88,22 @@ module _ (digest_of : List ℕ → List ℕ) where
 
 -- ---- how many events are left
 
+-- How many events a page that is broken adds at most: the break and the start anew, the events of the instruction that are made again, and those of
+-- an acknowledgement for each hart.
+abbrev pub break_cost : ℕ → ℕ
+break_cost harts = 10 + 8 * harts
+
 -- How many events a line takes at most. An access reads three words of tables and is then made; an instruction is fetched, and may have one
--- access to data. An acknowledgement counts eight:
--- itself, and the seven events at most that are made again after it.
+-- access to data. An acknowledgement counts eight: itself, and the seven events at most that are made again after it. A `fork` counts the breaks of
+-- all pages that it may share.
 abbrev pub cost_of : SetupParts → Line → ℕ
 cost_of setup (line.Load va) = 4
 cost_of setup (line.Store va word) = 4
 cost_of setup (line.Unmap va) = 2 + 8 * setup.harts
 cost_of setup (line.Destroy e) = 2 + 8 * setup.harts
 cost_of setup (line.Create e image pages) = 1 + steps_of false (length (image_of setup image).pages)
+cost_of setup (line.Shadow e image pages) = 1 + steps_of true (length (image_of setup image).pages)
+cost_of setup (line.Fork shadow e pages) = 1 + steps_of false MOST_IMAGE_PAGES + MOST_IMAGE_PAGES * break_cost setup.harts
 cost_of setup (line.Run e budget) = 1 + 8 * budget
 cost_of setup (line.Resume e budget) = 1 + 8 * budget
 cost_of setup other = 1
@@ -118,8 +128,12 @@ line_left setup (Some (line.Store va word)) (Seeking walk) = 4 - words_read walk
 line_left setup (Some (line.Unmap va)) (Removing page) = 1
 line_left setup (Some (line.Destroy e)) Destroying = 1
 line_left setup (Some (line.Create e image pages)) (Putting done) = steps_of false (length (image_of setup image).pages) - done
+line_left setup (Some (line.Shadow e image pages)) (Putting done) = steps_of true (length (image_of setup image).pages) - done
+line_left setup (Some (line.Fork shadow e pages)) (Putting done) = steps_of false MOST_IMAGE_PAGES - done
 line_left setup (Some (line.Run e budget)) (Running micro count) = 8 * (budget - count) - events_made micro
+line_left setup (Some (line.Run e budget)) (Breaking count) = 1 + 8 * (budget - count)
 line_left setup (Some (line.Resume e budget)) (Running micro count) = 8 * (budget - count) - events_made micro
+line_left setup (Some (line.Resume e budget)) (Breaking count) = 1 + 8 * (budget - count)
 line_left setup (Some now) under = 0
 
 abbrev pub hart_left : WorldData → ℕ → ℕ
@@ -136,6 +150,13 @@ fences_left w = sum_by (fence_left w.setup.harts) w.fences
 abbrev pub attacker_left : WorldData → ℕ
 attacker_left w = length w.setup.attacker - answered_at w.answered w.setup.harts
 
+-- each page that is shared may be broken
+abbrev pub shared_count : Enclave → ℕ
+shared_count r = count_by is_shared r.pages
+
+abbrev pub breaks_left : WorldData → ℕ
+breaks_left w = break_cost w.setup.harts * sum_by shared_count w.enclaves
+
 -- none, once a collision is kept
 unfoldable pub remaining : WorldData → ℕ
-remaining w = if is_some w.collision then 0 else sum_by (hart_left w) (range_with_len 0 w.setup.harts) + fences_left w + attacker_left w
+remaining w = if is_some w.collision then 0 else sum_by (hart_left w) (range_with_len 0 w.setup.harts) + fences_left w + attacker_left w + breaks_left w

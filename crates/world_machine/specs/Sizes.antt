@@ -1,5 +1,5 @@
--- The setup is one that can be run, its images are bytes, and the lists of the world have the lengths that it gives; guarded pages stay guarded.
-use Rattle.std.specs.Prelude.{◌≡◌, ℕ, ◌+◌, ◌<◌, List, length, slice_get, Some, None}
+-- The setup is one that can be run, and the lists of the world have the lengths that it gives; guarded pages stay guarded.
+use Rattle.std.specs.Prelude.{◌≡◌, ℕ, ◌+◌, ◌<◌, List, length, slice_get, Some}
 use Rattle.mem_ctl.specs.Data.{CtlData}
 use Rattle.mon_enclave.specs.declared.enclave.Enclave.{Enclave}
 use Rattle.mon_owner.specs.declared.owners.Owner.{Owner}
@@ -9,11 +9,9 @@ use Rattle.pl_history.specs.Rules.{IsSetup, guarded_of, pages_of}
 use Rattle.world_machine.specs.declared.under.Under.{Under}
 use Rattle.world_machine.specs.ByteBounds.{AreImageBytes}
 use Rattle.world_machine.specs.LineNumbers.{ScriptsFit}
-use Rattle.world_machine.specs.Unbuilt.{first_unbuilt_of}
 
 pub record HasSizes (setup : SetupParts) (ctl : CtlData) (owners : List Owner) (enclaves : List Enclave) (under : List Under) (answered : List ℕ) : Type 0 where
   pub rules : IsSetup setup
-  pub built : first_unbuilt_of setup ≡ None
   pub bytes : AreImageBytes setup.images
   pub lines_fit : ScriptsFit setup.lines
   pub zones : ctl.zones ≡ setup.zones

@@ -14,6 +14,7 @@ use Rattle.world_attack.specs.Room.{HasRoom}
 use Rattle.world_machine.specs.BytesAgree.{HostBytesAgree, OnlyAttacksDiffer}
 use Rattle.world_machine.specs.EnclavesAgree.{EnclavesAgree}
 use Rattle.world_machine.specs.LinesUnderWay.{LineUnderWay, NumbersApart, number_under_way}
+use Rattle.world_machine.specs.PagesAgree.{PagesAgree}
 use Rattle.world_machine.specs.RecordsAgree.{OwnersAgree, ProgressAgrees, RecordsAgree}
 use Rattle.world_machine.specs.Sizes.{HasSizes}
 use Rattle.world_machine.specs.TranslationsAgree.{TranslationsStand}
@@ -27,9 +28,10 @@ pub record Stands (w : WorldData) (s : Monitor) : Type 0 where
   pub owners : OwnersAgree w.owners s
   pub records : RecordsAgree (enclave_at w.enclaves) s.number
   pub progress : ProgressAgrees w.under w.answered s.progress
+  pub pages : PagesAgree w.setup (enclave_at w.enclaves) s.number
   pub enclaves : EnclavesAgree w.setup (written_page w) w.owners (enclave_at w.enclaves) s.number
   pub host : HostBytesAgree w.ctl.off_chip s
-  pub attacks : OnlyAttacksDiffer w.setup.zones w.ctl.off_chip w.ctl.mirror s.attacks w.owners s.number (hart_line w) (under_at w.under)
+  pub attacks : OnlyAttacksDiffer w.setup.zones w.ctl.off_chip w.ctl.mirror s.attacks w.owners (enclave_at w.enclaves) s.number (hart_line w) (under_at w.under)
   pub lines : (hart : ℕ) → LineUnderWay w.setup (written_page w) (enclave_at w.enclaves) s.number hart (hart_line w hart) (under_at w.under hart)
   pub apart : NumbersApart (λ hart. number_under_way (hart_line w hart) (under_at w.under hart))
   pub translations : TranslationsStand w.setup w.ctl w.tlbs w.fences (enclave_at w.enclaves) s (hart_line w) (under_at w.under)

@@ -5,26 +5,27 @@ use Rattle.pl_base.specs.declared.actor.Actor.TheVariants as actor_is
 use Rattle.pl_base.specs.declared.number.HartSet.{HartSet}
 use Rattle.mem_slots.specs.declared.slot_use.SlotUse.{SlotUse}
 use Rattle.mem_ctl.specs.Results.{AreGiven}
+use Rattle.mon_enclave.specs.Records.{enclave_at}
 use Rattle.mon_fence.specs.Fences.{fence_of}
 use Rattle.pl_history.specs.declared.answer.Answer.TheVariants as answer_is
 use Rattle.pl_history.specs.declared.line.AttackLine.{AttackLine}
 use Rattle.pl_history.specs.declared.line.AttackLine.TheVariants as attack
 use Rattle.pl_history.specs.declared.line.Line.{Line}
-use Rattle.pl_history.specs.declared.line.Line.TheVariants.{Load, Store, Map, Unmap, Create, Run, Resume, Send, Take, Destroy, After}
+use Rattle.pl_history.specs.declared.line.Line.TheVariants.{Load, Store, Map, Unmap, Create, Shadow, Fork, Grant, Run, Resume, Send, Take, Destroy, Drop, After}
 use Rattle.pl_history.specs.Rules.{is_actor}
 use Rattle.world_machine.specs.declared.turned.Turned.{Turned}
 use Rattle.world_machine.specs.declared.turned.Turned.TheVariants as turned
 use Rattle.world_machine.specs.declared.turned.Wait.TheVariants as wait
 use Rattle.world_machine.specs.declared.under.Under.{Under}
-use Rattle.world_machine.specs.declared.under.Under.TheVariants.{Idle, Seeking, Removing, Destroying, Putting, Running}
+use Rattle.world_machine.specs.declared.under.Under.TheVariants.{Idle, Seeking, Removing, Destroying, Putting, Running, Breaking}
 use Rattle.world_machine.specs.Acknowledging.{acknowledged, owed}
 use Rattle.world_machine.specs.Answering.{answers, quiet}
 use Rattle.world_machine.specs.Attacking.{attacker_waited, attacks}
-use Rattle.world_machine.specs.GivingBack.{begins_destroy, ends_destroy}
+use Rattle.world_machine.specs.GivingBack.{begins_destroy, drops_shadow, ends_destroy}
 use Rattle.world_machine.specs.HostAccessing.{accesses_host, begins_access, loads, stores}
 use Rattle.world_machine.specs.HostMapping.{begins_unmap, ends_unmap, lacked_by, maps}
-use Rattle.world_machine.specs.Making.{begin_create, put_next}
-use Rattle.world_machine.specs.Running.{begin_run, runs}
+use Rattle.world_machine.specs.Making.{begin_create, begin_fork, grants_page, put_next}
+use Rattle.world_machine.specs.Running.{begin_run, restarts, runs}
 use Rattle.world_machine.specs.Talking.{sends_word, takes_word}
 use Rattle.world_machine.specs.Worlds.{Event, WorldData, answered_at, attacker_line, hart_line, under_at}
 
@@ -59,12 +60,20 @@ module _ (digest_of : List ℕ → List ℕ) where
   due w hart positions (Unmap va) (Removing page) = waiting_turn (ends_unmap w hart page) (lacked_by w hart)
   due w hart positions (Destroy e) Idle = moves (begins_destroy w hart e)
   due w hart positions (Destroy e) Destroying = waiting_turn (ends_destroy w hart e) (lacked_by w hart)
-  due w hart positions (Create e image pages) Idle = moves (begin_create w hart e.0 image pages)
-  due w hart positions (Create e image pages) (Putting done) = moves (put_next digest_of w hart positions e.0 image done)
+  due w hart positions (Drop shadow) Idle = moves (drops_shadow w hart shadow.0)
+  due w hart positions (Create e image pages) Idle = moves (begin_create w hart e.0 image pages false)
+  due w hart positions (Create e image pages) (Putting done) = moves (put_next digest_of w hart positions e.0 image false done)
+  due w hart positions (Shadow e image pages) Idle = moves (begin_create w hart e.0 image pages true)
+  due w hart positions (Shadow e image pages) (Putting done) = moves (put_next digest_of w hart positions e.0 image true done)
+  due w hart positions (Fork shadow e pages) Idle = moves (begin_fork w hart shadow e.0 pages)
+  due w hart positions (Fork shadow e pages) (Putting done) = moves (put_next digest_of w hart positions e.0 (enclave_at w.enclaves e.0).image false done)
+  due w hart positions (Grant e page) Idle = moves (grants_page w hart e.0 page)
   due w hart positions (Run e budget) Idle = moves (begin_run w hart e.0 true)
   due w hart positions (Run e budget) (Running micro count) = moves (runs digest_of w hart positions e.0 budget micro count)
+  due w hart positions (Run e budget) (Breaking count) = waiting_turn (restarts w hart count) (lacked_by w hart)
   due w hart positions (Resume e budget) Idle = moves (begin_run w hart e.0 false)
   due w hart positions (Resume e budget) (Running micro count) = moves (runs digest_of w hart positions e.0 budget micro count)
+  due w hart positions (Resume e budget) (Breaking count) = waiting_turn (restarts w hart count) (lacked_by w hart)
   due w hart positions (Send e word) Idle = moves (sends_word w hart e.0 word)
   due w hart positions (Take e) Idle = moves (takes_word w hart e.0)
   due w hart positions (After actor count) Idle = waits w actor count (quiet (answers w hart answer_is.Ok))

@@ -56,7 +56,9 @@ translated (At pa) reads reaches = reaches (Some pa)
 translated PageFault reads reaches = reaches None
 
 -- the word of a table is read through the trees, and the walk and the TLB learn from it
-abbrev pub reads_table : (List ℕ → List ℕ) → WorldData → Request → List ℕ → Walk → (WorldData → Result Walk NoPage → WorldData) → (WorldData → Place → WorldData) → Pa → Event
+abbrev pub reads_table :
+    (List ℕ → List ℕ) → WorldData → Request → List ℕ → Walk → (WorldData → Result Walk NoPage → WorldData) → (WorldData → Place → WorldData) → Pa
+    → Event
 reads_table digest_of w request positions walk learns faults pa =
     accesses w (read_word_of digest_of (page_at pa) (offset_at pa) (going w.ctl positions))
     (λ left word. learns

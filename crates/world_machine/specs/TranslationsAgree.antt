@@ -1,7 +1,7 @@
 -- Each translation that a hart has, in its TLB or found by its walk, is one of the space in which it was made; or it is being taken away, and
--- the fence of that still needs this hart: of the host's space with its mapping, of a number's with the number. A walk under way stands at the table that the words
--- give.
-use Rattle.std.specs.Prelude.{◌≡◌, ◌⊎◌, ℕ, ◌+◌, ◌<◌, true, List, [], length, Option, Some, None, option_map}
+-- the fence of that still needs this hart: of the host's space with its mapping, of a number's with the number, or with the page that it broke. A
+-- walk under way stands at the table that the words give.
+use Rattle.std.specs.Prelude.{◌≡◌, ◌⊎◌, ℕ, ◌+◌, ◌<◌, true, List, length, Option, Some, None, option_map}
 use Rattle.std.specs.List.{All}
 use Rattle.pl_base.specs.Address.{vpn_of}
 use Rattle.pl_base.specs.declared.access.Kind.{Kind}
@@ -21,17 +21,19 @@ use Rattle.mon_fence.specs.declared.fences.Fence.{Fence}
 use Rattle.mon_fence.specs.Fences.{fence_of}
 use Rattle.mon_host.specs.Laws.{mirror_words}
 use Rattle.mon_host.specs.Leaves.{host_space}
-use Rattle.mon_tables.specs.Space.{Mapping, mapping_at}
+use Rattle.mon_life.specs.Pages.{leaves_of}
+use Rattle.mon_tables.specs.Space.{Mapping, first_vpn, mapping_at}
+use Rattle.mon_tables.specs.SpaceWalks.{leaf_mappings}
 use Rattle.mon_tables.specs.Words.{ppn_of_page}
 use Rattle.pl_history.specs.declared.line.Line.{Line}
 use Rattle.pl_history.specs.declared.line.Line.TheVariants as line_is
 use Rattle.pl_history.specs.declared.setup.SetupParts.{SetupParts}
 use Rattle.pl_history.specs.Monitor.{Monitor}
-use Rattle.pl_history.specs.NumberSpace.{mappings_of_number}
 use Rattle.world_machine.specs.declared.under.Under.{Under}
 use Rattle.world_machine.specs.declared.under.Under.TheVariants.{Running, Seeking}
-use Rattle.world_machine.specs.FencesStand.{FencesStand, GivingStands, IsLeaving, IsOpen, RemovalStands, removals_by}
+use Rattle.world_machine.specs.FencesStand.{FencesStand, NumberFenceStands, IsOpen, IsOwed, RemovalStands, removals_by}
 use Rattle.world_machine.specs.LinesUnderWay.{access_of}
+use Rattle.world_machine.specs.Making.{image_of}
 use Rattle.world_machine.specs.TablesAgree.{TablesAgree}
 use Rattle.world_machine.specs.Translating.{host_view, number_view}
 use Rattle.world_machine.specs.Worlds.{tlb_at}
@@ -52,25 +54,26 @@ pub record IsHostEntry (s : Monitor) (fences : List (Option Fence)) (hart : ℕ)
   pub is : entry ≡ entry_of host_space mapping
   pub fresh : MayUse s fences hart mapping
 
--- the space of an enclave number, which has broken no page
-abbrev pub space_of : SetupParts → Monitor → ℕ → List Mapping
-space_of setup s e = mappings_of_number setup s.number (s.number e) []
+-- the space that the pages of a record stand for: the leaves of its image's pages
+abbrev pub space_of : SetupParts → Enclave → List Mapping
+space_of setup r = leaf_mappings first_vpn (leaves_of r.pages (image_of setup r.image).pages)
 
--- a hart may use a mapping of a number: the space of the live number has it, or the number is given back and the hart has yet to acknowledge
--- that
-abbrev pub MayUseNumber : SetupParts → Monitor → List (Option Fence) → ℕ → ℕ → Mapping → Type 0
-MayUseNumber setup s fences hart e m = (((s.number e).live ≡ true) × (mapping_at (space_of setup s e) m.vpn ≡ Some m)) ⊎ IsLeaving fences hart e
+-- a hart may use a mapping of a number: the space of the live number has it, or a fence of that page, or of the number's whole space, still needs
+-- the hart
+abbrev pub MayUseNumber : SetupParts → (ℕ → Enclave) → Monitor → List (Option Fence) → ℕ → ℕ → Mapping → Type 0
+MayUseNumber setup record_of s fences hart e m =
+    (((s.number e).live ≡ true) × (mapping_at (space_of setup (record_of e)) m.vpn ≡ Some m)) ⊎ IsOwed fences hart e m.vpn
 
 -- a translation of a number: that of a mapping that the hart may use
-pub record IsNumberEntry (setup : SetupParts) (s : Monitor) (fences : List (Option Fence)) (hart : ℕ) (entry : TlbEntry) : Type 0 where
+pub record IsNumberEntry (setup : SetupParts) (record_of : ℕ → Enclave) (s : Monitor) (fences : List (Option Fence)) (hart : ℕ) (entry : TlbEntry) : Type 0 where
   pub e : ℕ
   pub mapping : Mapping
   pub is : entry ≡ entry_of (record { 0 = e + 1 }) mapping
-  pub fresh : MayUseNumber setup s fences hart e mapping
+  pub fresh : MayUseNumber setup record_of s fences hart e mapping
 
 -- nobody else has translations
-abbrev pub IsFresh : SetupParts → Monitor → List (Option Fence) → ℕ → TlbEntry → Type 0
-IsFresh setup s fences hart entry = IsHostEntry s fences hart entry ⊎ IsNumberEntry setup s fences hart entry
+abbrev pub IsFresh : SetupParts → (ℕ → Enclave) → Monitor → List (Option Fence) → ℕ → TlbEntry → Type 0
+IsFresh setup record_of s fences hart entry = IsHostEntry s fences hart entry ⊎ IsNumberEntry setup record_of s fences hart entry
 
 -- ---- walks under way
 
@@ -108,10 +111,10 @@ WalkingStands ctl IsUsable (Some walking) = WalkStands ctl IsUsable walking.view
 -- ---- all of them
 
 -- of each hart: the translations in its TLB, and its walk under way
-pub record Fresh (setup : SetupParts) (ctl : CtlData) (tlbs : List (List TlbEntry)) (fences : List (Option Fence)) (record_of : ℕ → Enclave) (s : Monitor) (line_of : ℕ → Option Line)
-    (under_of : ℕ → Under) : Type 0 where
-  pub entries : (hart : ℕ) → All (IsFresh setup s fences hart) (tlb_at tlbs hart)
-  pub walks : (hart : ℕ) → WalkingStands ctl (IsFresh setup s fences hart) (walking setup.tables record_of (line_of hart) (under_of hart))
+pub record Fresh (setup : SetupParts) (ctl : CtlData) (tlbs : List (List TlbEntry)) (fences : List (Option Fence)) (record_of : ℕ → Enclave) (s : Monitor)
+    (line_of : ℕ → Option Line) (under_of : ℕ → Under) : Type 0 where
+  pub entries : (hart : ℕ) → All (IsFresh setup record_of s fences hart) (tlb_at tlbs hart)
+  pub walks : (hart : ℕ) → WalkingStands ctl (IsFresh setup record_of s fences hart) (walking setup.tables record_of (line_of hart) (under_of hart))
 
 pub record TranslationsStand (setup : SetupParts) (ctl : CtlData) (tlbs : List (List TlbEntry)) (fences : List (Option Fence)) (record_of : ℕ → Enclave) (s : Monitor)
     (line_of : ℕ → Option Line) (under_of : ℕ → Under) : Type 0 where
@@ -119,5 +122,5 @@ pub record TranslationsStand (setup : SetupParts) (ctl : CtlData) (tlbs : List (
   pub harts : length tlbs ≡ setup.harts
   pub fences_stand : FencesStand setup.harts fences s.removals
   pub removals : (hart : ℕ) → RemovalStands (line_of hart) (under_of hart) (removals_by s.removals hart)
-  pub giving : (hart : ℕ) → GivingStands (line_of hart) (under_of hart) (fence_of fences hart)
+  pub giving : (hart : ℕ) → NumberFenceStands (line_of hart) (under_of hart) (fence_of fences hart)
   pub fresh : Fresh setup ctl tlbs fences record_of s line_of under_of

@@ -25,15 +25,17 @@ pub fn faults_need_an_attack()
 {}
 
 /// The page tables mean the spaces: in every world that is reached, the words in checked memory walk from the host's root to the host's space,
-/// and from the root of each live number to the space of that number, for every page, mode and kind of access.
+/// and from the root of each live number to the space of that number, by the pages that it broke so far, for every page, mode and kind of access.
 pub fn roots_walk_to_spaces()
     ensures { RootsWalkToSpaces }
 {}
 
 /// Nobody reaches a page of another: in every world that is reached, on every hart, whatever its TLB has, a walk under way, or one that begins,
-/// asks for words of guarded pages alone, which the protection entries let be read. An access of an enclave goes to its own page, that with the
-/// image's page at that address, or has none exactly where the image has none that lets it through. An access of the host goes by a mapping that
-/// the hart may use, to a page of the host: never to a guarded page, nor to one that an enclave number took.
+/// asks for words of guarded pages alone, which the protection entries let be read. An access of an enclave goes to its own page, or but for a store
+/// to one of the shadow that it was forked from, that with the image's page at that address; or it has none exactly where the image has none that
+/// lets it through, or a store's page is shared. So it is on each hart that has acknowledged the pages that the number broke, as one that runs it has.
+/// An access of the host goes by a mapping that the hart may use, to a page of the host: never to a guarded page, nor to one that an enclave number
+/// took.
 pub fn accesses_reach_own_pages()
     ensures { AccessesReachOwnPages }
 {}

@@ -1,20 +1,13 @@
-use Rattle.std.proofs.Common.{◌≡◌, ap, ◌∙◌, subst}
+use Rattle.std.proofs.Common.{◌≡◌, subst}
 use Rattle.std.specs.Prelude.{IfOk}
 use Rattle.std.specs.Fn.{FnReturnsAt}
 use Rattle.sha2.specs.Sha256.{sha256}
 use Rattle.pl_history.specs.declared.setup.SetupParts.{SetupParts}
-use Rattle.world_machine.specs.Unbuilt.{first_unbuilt_of}
 use Rattle.world_setup.specs.Generating.{generated}
 use Rattle.penglai_main.specs.declared.solo.Printed.TheVariants as printed_is
 use Rattle.penglai_main.specs.Ends.{ends}
 use Rattle.penglai_main.specs.Play.{RunEnds}
-use Rattle.penglai_main.proofs.LoadLemmas.{generated_is_built}
 use Rattle.penglai_main.proofs.top.load.Goals as goal
-
-pub run_and_print-requires-clause-built : goal.run_and_print-requires-clause-built
-run_and_print-requires-clause-built g c =
-    let made : c.in-Ok.setup ≡ generated c.args.n = subst (λ r. IfOk r (λ (s : SetupParts). s ≡ generated c.args.n)) c.in-Ok.is c.generate.ensures in
-    ap first_unbuilt_of made ∙ generated_is_built c.args.n
 
 pub returns-clause-ends : goal.returns-clause-ends
 returns-clause-ends g c =

@@ -22,6 +22,16 @@ returns-in-Take-clause-turn g c =
     let w = c.args.self.now in
     said_turn (FnReturnsAt g.F.Fn w.1) g.D.Digester.digest_of w.0 c.say_idle-in-Take.new.self.0 c.args.hart.0 (pages_due w.0 c.args.hart.0) c.args.due c.args.under c.say_idle-in-Take.result (ap is_said c.in-Take.is) c.say_idle-in-Take.ensures.turn
 
+pub returns-in-Grant-clause-turn : goal.returns-in-Grant-clause-turn
+returns-in-Grant-clause-turn g c =
+    let w = c.args.self.now in
+    said_turn (FnReturnsAt g.F.Fn w.1) g.D.Digester.digest_of w.0 c.say_idle-in-Grant.new.self.0 c.args.hart.0 (pages_due w.0 c.args.hart.0) c.args.due c.args.under c.say_idle-in-Grant.result (ap is_said c.in-Grant.is) c.say_idle-in-Grant.ensures.turn
+
+pub returns-in-Drop-clause-turn : goal.returns-in-Drop-clause-turn
+returns-in-Drop-clause-turn g c =
+    let w = c.args.self.now in
+    said_turn (FnReturnsAt g.F.Fn w.1) g.D.Digester.digest_of w.0 c.say_idle-in-Drop.new.self.0 c.args.hart.0 (pages_due w.0 c.args.hart.0) c.args.due c.args.under c.say_idle-in-Drop.result (ap is_said c.in-Drop.is) c.say_idle-in-Drop.ensures.turn
+
 pub returns-in-After-clause-turn : goal.returns-in-After-clause-turn
 returns-in-After-clause-turn g c =
     let w = c.args.self.now in

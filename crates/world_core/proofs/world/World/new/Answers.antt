@@ -7,4 +7,4 @@ pub invariant_of-result : goal.invariant_of-result
 invariant_of-result g c =
     let d = g.D.Digester.digest_of in
     subst (λ v. Reached d v.0) (sym (c.in_ok-machine.ensures {u = tt}))
-    (opened_reached d c.args.setup (record { rules = c.parts-rules.ensures.rules; bytes = c.numbers_fit.ensures.bytes; lines_fit = c.numbers_fit.ensures.lines; built = c.requires }))
+    (opened_reached d c.args.setup (record { rules = c.parts-rules.ensures.rules; bytes = c.numbers_fit.ensures.bytes; lines_fit = c.numbers_fit.ensures.lines }))

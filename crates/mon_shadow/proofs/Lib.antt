@@ -1,0 +1,9 @@
+pub mod BreakLemmas
+pub mod CopyLemmas
+pub mod CopyPaths
+pub mod CopyTables
+pub mod DropLemmas
+pub mod ForkLemmas
+pub mod GrantLemmas
+pub mod RefusalLemmas
+pub mod SharingLemmas

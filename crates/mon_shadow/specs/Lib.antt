@@ -1,0 +1,10 @@
+pub mod BreakLaws
+pub mod Breaking
+pub mod Dropping
+pub mod Forking
+pub mod Granting
+pub mod Laws
+pub use Rattle.mem_slots.specs.Choices
+pub use Rattle.mon_enclave.specs.Records
+pub use Rattle.mon_life.specs.Destroying
+pub use Rattle.mon_life.specs.Making

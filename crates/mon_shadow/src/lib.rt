@@ -1,0 +1,24 @@
+//! The monitor's steps for shadows and their forks.
+//!
+//! `fork` begins by `fork_begin`; `grant` and `drop` are one step each. `break_page` breaks a page that a forked number shares and its enclave
+//! stores to.
+#![tactic(auto)]
+
+mod break_laws;
+mod breaking;
+mod dropping;
+mod forking;
+mod granting;
+mod laws;
+
+pub use break_laws::breaks_tell;
+pub use breaking::{break_page, vpn_of_page};
+pub use dropping::drop_shadow;
+pub use forking::fork_begin;
+pub use granting::grant;
+pub use laws::{forks_are_refused, forks_share_pages, shadows_are_given_back};
+
+#[cfg(test)]
+mod break_tests;
+#[cfg(test)]
+mod tests;
