@@ -5,7 +5,7 @@ use Rattle.pl_base.specs.declared.number.EncNo.{EncNo}
 use Rattle.pl_base.specs.declared.refusal.No.{No}
 use Rattle.pl_base.specs.declared.state.State.TheVariants.{Dying}
 use Rattle.pl_base.specs.HartSet.{space_of_number}
-use Rattle.pl_base.specs.States.{destroy_refusal}
+use Rattle.pl_base.specs.States.{idle_refusal}
 use Rattle.mem_ctl.specs.Data.{CtlData}
 use Rattle.mem_ctl.specs.Raw.{raw_zeroed}
 use Rattle.mon_fence.specs.declared.fences.Fence.{Fence}
@@ -20,7 +20,7 @@ use Rattle.mon_life.specs.Putting.{in_state}
 -- ---- it begins
 
 abbrev pub destroy_refusal_of : List Enclave → ℕ → Option No
-destroy_refusal_of enclaves e = destroy_refusal (enclave_at enclaves e).state
+destroy_refusal_of enclaves e = idle_refusal (enclave_at enclaves e).state
 
 -- the refusal, where there is one, and the records and the fences after it
 pub record DestroyBegun : Type 0 where

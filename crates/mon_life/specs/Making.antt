@@ -50,18 +50,18 @@ abbrev pub taker : ℕ → Bool → Owner
 taker e shadow = if shadow then owner.Shadow (record { 0 = e }) else owner.Enclave (record { 0 = e })
 
 -- the refusal, where there is one, and the owners and the records after it
-pub record CreateBegun : Type 0 where
+pub record PagesTaken : Type 0 where
   pub refusal : Option No
   pub owners : List Owner
   pub enclaves : List Enclave
 
 -- a refused line changes nothing
-abbrev pub begun_unless : Option No → List Owner → List Enclave → List Owner → List Enclave → CreateBegun
-begun_unless (Some cause) owners enclaves taken making = record { refusal = Some cause; owners = owners; enclaves = enclaves }
-begun_unless None owners enclaves taken making = record { refusal = None; owners = taken; enclaves = making }
+abbrev pub taken_unless : Option No → List Owner → List Enclave → List Owner → List Enclave → PagesTaken
+taken_unless (Some cause) owners enclaves taken making = record { refusal = Some cause; owners = owners; enclaves = enclaves }
+taken_unless None owners enclaves taken making = record { refusal = None; owners = taken; enclaves = making }
 
 -- number e is being built from an image of this number in these pages, all of which are its own now
-unfoldable pub create_begun : List Owner → List Enclave → List Rule → ℕ → ℕ → Image → List ℕ → Bool → CreateBegun
+unfoldable pub create_begun : List Owner → List Enclave → List Rule → ℕ → ℕ → Image → List ℕ → Bool → PagesTaken
 create_begun owners enclaves rules e number image pages shadow =
-    begun_unless (create_refusal_of owners enclaves rules (length image.pages) e pages) owners enclaves
+    taken_unless (create_refusal_of owners enclaves rules (length image.pages) e pages) owners enclaves
     (given_to owners pages (taker e shadow)) (with_enclave enclaves e (built number image pages (enclave_at enclaves e)))

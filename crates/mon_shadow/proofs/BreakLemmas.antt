@@ -20,7 +20,8 @@ use Rattle.mon_enclave.specs.declared.enclave.Enclave.{Enclave}
 use Rattle.mon_enclave.specs.Records.{enclave_at, next_spare, with_enclave, with_own_page}
 use Rattle.mon_tables.specs.Tables.{number_slot}
 use Rattle.mon_tables.specs.Words.{leaf_word}
-use Rattle.mon_shadow.specs.Breaking.{IsPageBroken, if_put, page_broken, page_copied, page_number_at, vpn_of_page}
+use Rattle.mon_shadow.specs.Breaking.{IsPageBroken, if_put, page_broken, page_copied, page_number_at}
+use Rattle.mon_tables.specs.Space.{vpn_of_page}
 
 got_err : (bytes : List ℕ) (b : Broken) → got_outcome bytes (Err b) ≡ outcome_of (Err b)
 got_err bytes (broken_is.Fault place) = refl

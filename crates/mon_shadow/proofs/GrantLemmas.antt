@@ -7,7 +7,7 @@ use Rattle.pl_base.specs.declared.refusal.No.TheVariants.{NoEnclave, TooMany, Wr
 use Rattle.pl_base.specs.declared.state.State.{State}
 use Rattle.pl_base.specs.Pages.{most_spares}
 use Rattle.pl_base.specs.Refusals.{refuse}
-use Rattle.pl_base.specs.States.{destroy_refusal, is_absent, is_under_way}
+use Rattle.pl_base.specs.States.{idle_refusal, is_absent, is_under_way}
 use Rattle.rv_pmp.specs.declared.rule.Rule.{Rule}
 use Rattle.rv_pmp.specs.Pmp.{page_allowed}
 use Rattle.mon_owner.specs.declared.owners.Owner.{Owner}
@@ -39,7 +39,7 @@ module _ (owners : List Owner) (enclaves : List Enclave) (rules : List Rule) (e 
 
   pub may_grant : grant_refusal_of owners enclaves rules e page ≡ None → MayGrant owners enclaves rules e page
   may_grant none =
-      let after_state = no_cause (destroy_refusal state) later none in
+      let after_state = no_cause (idle_refusal state) later none in
       let there = neither (is_absent state) (is_under_way state) NoEnclave (WrongState state) after_state.0 in
       let taken = may_be_taken owners rules (page ∷ []) (many ∷ []) after_state.1 in
       let after_many = no_cause many [] taken.2 in
@@ -55,7 +55,7 @@ module _ (owners : List Owner) (enclaves : List Enclave) (rules : List Rule) (e 
   not_refused_where_it_may : MayGrant owners enclaves rules e page → grant_refusal_of owners enclaves rules e page ≡ None
   not_refused_where_it_may may =
       let within : nat_lt most_spares ((enclave_at enclaves e).given + 1) ≡ false = (let few = may.few in grind (arith, nat_tests)) in
-      none_of (destroy_refusal state) later (neither_refuses (is_absent state) (is_under_way state) NoEnclave (WrongState state) may.there may.at_rest)
+      none_of (idle_refusal state) later (neither_refuses (is_absent state) (is_under_way state) NoEnclave (WrongState state) may.there may.at_rest)
       (taken_unless_later owners rules (page ∷ []) (many ∷ []) (All-cons IsFree page [] may.host (All-nil IsFree)) (All-cons IsOpen page [] may.unbarred (All-nil IsOpen))
       (none_of many [] (ap (λ b. refuse b TooMany) within) refl))
 

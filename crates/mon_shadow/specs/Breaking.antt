@@ -1,9 +1,8 @@
 -- The event that breaks a page of a forked number (copy on write): the shared page is read through the trees and put into the number's next spare,
 -- the leaf leads there with all permissions of the image's page, the page is the number's own, and a fence of its address is posted.
-use Rattle.std.specs.Prelude.{ℕ, ◌≡◌, ◌+◌, List, slice_get, Option, Some}
+use Rattle.std.specs.Prelude.{ℕ, ◌≡◌, List, slice_get, Option, Some}
 use Rattle.std.specs.Option.{option_map_or}
 use Rattle.pl_base.specs.declared.access.Mode.TheVariants.{User}
-use Rattle.pl_base.specs.declared.address.Vpn.{Vpn}
 use Rattle.pl_base.specs.declared.number.EncNo.{EncNo}
 use Rattle.pl_base.specs.declared.perms.Perms.{Perms}
 use Rattle.pl_base.specs.HartSet.{space_of_number}
@@ -13,7 +12,7 @@ use Rattle.mem_ctl.specs.Results.{AreGiven}
 use Rattle.mem_ctl.specs.Data.{CtlData, Going, Outcome, Value, Fault, Collision, Again, After, and_then, going}
 use Rattle.mon_fence.specs.declared.fences.Fence.{Fence}
 use Rattle.mon_fence.specs.Fences.{posted}
-use Rattle.mon_tables.specs.Space.{first_vpn}
+use Rattle.mon_tables.specs.Space.{vpn_of_page}
 use Rattle.mon_tables.specs.Tables.{number_slot}
 use Rattle.mon_tables.specs.Words.{leaf_word}
 use Rattle.mon_enclave.specs.declared.enclave.Enclave.{Enclave}
@@ -23,10 +22,6 @@ use Rattle.mon_enclave.specs.Records.{enclave_at, next_spare, page_number_of, wi
 -- the number of page `index`
 abbrev pub page_number_at : List PageKind → ℕ → ℕ
 page_number_at pages index = option_map_or page_number_of (slice_get pages index) 0
-
--- the virtual page number of page `index` of an image
-abbrev pub vpn_of_page : ℕ → Vpn
-vpn_of_page index = record { 0 = first_vpn + index }
 
 -- what is so after all was put, and was so before; a refusal leaves that
 abbrev pub if_put : {S : Type 0} → Outcome (Unit {0}) → S → S → S

@@ -11,7 +11,7 @@ use Rattle.mon_owner.specs.declared.owners.Owner.{Owner}
 use Rattle.mon_owner.specs.Owners.{given_to}
 use Rattle.mon_enclave.specs.declared.enclave.Enclave.{Enclave}
 use Rattle.mon_enclave.specs.Records.{enclave_at, forked, with_enclave}
-use Rattle.mon_life.specs.Making.{CreateBegun, begun_unless, page_refusals, taker}
+use Rattle.mon_life.specs.Making.{PagesTaken, taken_unless, page_refusals, taker}
 
 -- why number e can't be forked from a shadow with these spares: the shadow isn't sealed, the number isn't free, a page stands in the list twice, a
 -- page can't be taken, there are too many
@@ -23,7 +23,7 @@ fork_refusal_of owners enclaves rules shadow e pages = first_refusal (
     ∷ (page_refusals owners rules pages ++ refuse (nat_lt most_spares (length pages)) TooMany ∷ []))
 
 -- number e is being built as a fork of a shadow, and all these pages are its own
-unfoldable pub fork_begun : List Owner → List Enclave → List Rule → EncNo → ℕ → List ℕ → CreateBegun
+unfoldable pub fork_begun : List Owner → List Enclave → List Rule → EncNo → ℕ → List ℕ → PagesTaken
 fork_begun owners enclaves rules shadow e pages =
-    begun_unless (fork_refusal_of owners enclaves rules shadow.0 e pages) owners enclaves (given_to owners pages (taker e false))
+    taken_unless (fork_refusal_of owners enclaves rules shadow.0 e pages) owners enclaves (given_to owners pages (taker e false))
     (with_enclave enclaves e (forked shadow (enclave_at enclaves shadow.0) pages (enclave_at enclaves e)))

@@ -71,8 +71,8 @@ abbrev pub ForkedHolds : Type 0
 ForkedHolds = (shadow : EncNo) (source : Enclave) (spares : List ℕ) (enclave : Enclave) → pages_held (forked shadow source spares enclave) ≡ spares
 
 -- whatever a record was, the one that is forked into it is the same, but for the hart that it was last on
-abbrev pub NothingIsLeft : Type 0
-NothingIsLeft = (shadow : EncNo) (source : Enclave) (spares : List ℕ) (one other : Enclave)
+abbrev pub ForkedAnew : Type 0
+ForkedAnew = (shadow : EncNo) (source : Enclave) (spares : List ℕ) (one other : Enclave)
     → forked shadow source spares one ≡ record (forked shadow source spares other) { hart = one.hart }
 
 -- ---- giving back

@@ -7,14 +7,15 @@ ghost use Rattle.mem_slots.specs.Choices.{NamesPosition};
 ghost use Rattle.mem_ctl.specs.Results.{IsCall, outcome_of};
 ghost use Rattle.mon_enclave.specs.Records.{enclave_at, is_shared_at, page_number_of, with_enclave, with_own_page};
 ghost use Rattle.mon_fence.specs.Fences.{fence_of, posted};
-ghost use Rattle.mon_shadow.specs.Breaking.{IsPageBroken, page_broken, page_copied, page_number_at, vpn_of_page};
+ghost use Rattle.mon_shadow.specs.Breaking.{IsPageBroken, page_broken, page_copied, page_number_at};
+ghost use Rattle.mon_tables.specs.Space.{vpn_of_page};
 
 use mem_ctl::{Broken, Ctl};
 use mem_slots::SlotUse;
 use mon_enclave::{Enclaves, PageKind};
 use mon_fence::Fences;
-use mon_tables::{leaf_word, number_slot};
-use pl_base::{EncNo, HartNo, IMAGE_START, Mode, PAGE_BYTES, Perms, Space, Vpn};
+use mon_tables::{leaf_word, number_slot, vpn_of_page};
+use pl_base::{EncNo, HartNo, Mode, Perms, Space};
 use pl_digest::Digester;
 
 /// Breaks a page of a forked number (copy on write): the shared page is read through the trees and put into the number's next spare, its leaf
@@ -107,11 +108,4 @@ fn page_number_at(pages: &[PageKind], index: u32) -> u32
     ensures { result ≡ page_number_at pages.now index }
 {
     pages[index as usize].page()
-}
-
-/// The virtual page number of page `index` of an image.
-pub fn vpn_of_page(index: u32) -> Vpn
-    ensures { result ≡ vpn_of_page index }
-{
-    Vpn(IMAGE_START / PAGE_BYTES + u64::from(index))
 }

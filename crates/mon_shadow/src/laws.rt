@@ -1,6 +1,6 @@
 // When a fork, a grant and a drop are refused, and what they leave. Each law is the contract of a function that does nothing.
 ghost use Rattle.std.specs.Prelude.{List, ℕ};
-ghost use Rattle.mon_shadow.specs.Laws.{DropsAreRefused, ForkedHolds, ForksAreRefused, ForksShare, GrantsAreRefused, NothingIsLeft, ShadowsAreGivenBack};
+ghost use Rattle.mon_shadow.specs.Laws.{DropsAreRefused, ForkedHolds, ForksAreRefused, ForksShare, GrantsAreRefused, ForkedAnew, ShadowsAreGivenBack};
 
 /// A fork, a grant and a drop are refused exactly where they may not be made.
 pub fn forks_are_refused()
@@ -13,7 +13,7 @@ pub fn forks_are_refused()
 pub fn forks_share_pages()
     ensures shared { ForksShare }
     ensures holds { ForkedHolds }
-    ensures anew { NothingIsLeft }
+    ensures anew { ForkedAnew }
 {}
 
 /// For every digest function: after a drop that isn't refused, the shadow's pages are zeroed pages of the host, and no other page, node, owner

@@ -12,7 +12,7 @@ mod granting;
 mod laws;
 
 pub use break_laws::breaks_tell;
-pub use breaking::{break_page, vpn_of_page};
+pub use breaking::break_page;
 pub use dropping::drop_shadow;
 pub use forking::fork_begin;
 pub use granting::grant;

@@ -1,6 +1,7 @@
 -- Address spaces as lists of mappings (own).
-use Rattle.std.specs.Prelude.{ℕ, ◌/◌, ◌==◌, not, IsFalse, AllPairs, List, filter, find, count_by, Option}
+use Rattle.std.specs.Prelude.{ℕ, ◌+◌, ◌/◌, ◌==◌, not, IsFalse, AllPairs, List, filter, find, count_by, Option}
 use Rattle.std.specs.Int.RustNames.{bit_and}
+use Rattle.pl_base.specs.declared.address.Vpn.{Vpn}
 use Rattle.pl_base.specs.declared.page.TheConstants.{IMAGE_START}
 use Rattle.pl_base.specs.declared.perms.Perms.{Perms}
 
@@ -13,6 +14,10 @@ pub record Mapping : Type 0 where
 -- the virtual page number of an image's first page
 abbrev pub first_vpn : ℕ
 first_vpn = IMAGE_START / 4096
+
+-- that of page `index` of an image
+abbrev pub vpn_of_page : ℕ → Vpn
+vpn_of_page index = record { 0 = first_vpn + index }
 
 -- two mappings are of two pages
 abbrev pub Differ : Mapping → Mapping → Type 0

@@ -1,14 +1,22 @@
 // The three tables of an enclave number.
 ghost use Rattle.std.specs.Prelude.{◌≡◌, ◌<◌, ◌≤◌, IsTrue, All, length};
 ghost use Rattle.pl_base.specs.Perms.{are_page_perms};
+ghost use Rattle.mon_tables.specs.Space.{vpn_of_page};
 ghost use Rattle.mon_tables.specs.Tables.{leaf_words, number_slot, number_table_bytes, pointing_words, table_number, table_words};
 
 use crate::words::{WORD_BYTES, leaf_word, pointer_word};
 use byteorder::{ByteOrder, LittleEndian};
-use pl_base::{EncNo, IMAGE_START, Mode, PAGE_BYTES, Perms};
+use pl_base::{EncNo, IMAGE_START, Mode, PAGE_BYTES, Perms, Vpn};
 
 /// The word of an image's first page: its virtual page number.
 const FIRST_LEAF: usize = (IMAGE_START / PAGE_BYTES) as usize;
+
+/// The virtual page number of page `index` of an image.
+pub fn vpn_of_page(index: u32) -> Vpn
+    ensures { result ≡ vpn_of_page index }
+{
+    Vpn(IMAGE_START / PAGE_BYTES + u64::from(index))
+}
 
 /// The page of one page of an image, and what may be done with it.
 #[derive(Clone, Copy, PartialEq, Eq, Debug, Default)]

@@ -22,7 +22,7 @@ use Rattle.pl_history.specs.HostMaps.{early_refusals, map_refusal, unmap_refusal
 use Rattle.pl_history.specs.Making.{create_refusal, fork_refusal, grant_refusal}
 use Rattle.pl_history.specs.Words.{send_refusal, sent_out, take_refusal}
 use Rattle.pl_base.specs.Refusals.{first_refusal}
-use Rattle.pl_base.specs.States.{destroy_refusal, is_fresh, is_paused, run_refusal}
+use Rattle.pl_base.specs.States.{idle_refusal, is_fresh, is_paused, run_refusal}
 use Rattle.pl_history.specs.Laws.{moved}
 use Rattle.pl_history.specs.Legal.{ActorLine, of_hart, of_attacker, AllAllowed, Allowed, AllowedAnswer, AllowedLine, Legal, after, legal_state, state_after}
 use Rattle.pl_history.specs.Licence.{Licensed}
@@ -146,7 +146,7 @@ module _ (setup : SetupParts) (s : Monitor) where
   hart_unchanging (line_is.Take e) begun now allowed =
       let sent : Option ℕ = slice_get (sent_out setup (s.number e.0)) (s.number e.0).taken in
       at_once (take_refusal setup (s.number e.0)) (option_map answer_is.Word sent) begun now (word_at_once sent) allowed
-  hart_unchanging (line_is.Destroy e) begun now allowed = begins (destroy_refusal (s.number e.0).state) EndsDone begun now (done now) allowed
+  hart_unchanging (line_is.Destroy e) begun now allowed = begins (idle_refusal (s.number e.0).state) EndsDone begun now (done now) allowed
   hart_unchanging (line_is.Drop e) begun now allowed = at_once (drop_refusal setup s e.0) (Some answer_is.Ok) begun now done_at_once allowed
   hart_unchanging (line_is.After actor count) false answer_is.Ok allowed = refl
   hart_unchanging (line_is.After actor count) begun now allowed = absurd allowed

@@ -25,6 +25,11 @@ abbrev pub is_sealed : State → Bool
 is_sealed state_is.Sealed = true
 is_sealed _ = false
 
+-- dying: it is being given back
+abbrev pub is_dying : State → Bool
+is_dying state_is.Dying = true
+is_dying _ = false
+
 -- on, building or dying: a line has the number under way
 abbrev pub is_under_way : State → Bool
 is_under_way state_is.On = true
@@ -58,5 +63,5 @@ abbrev pub run_refusal : (State → Bool) → State → Option No
 run_refusal may_run state = first_refusal (refuse (is_absent state) NoEnclave ∷ refuse (not (may_run state)) (WrongState state) ∷ [])
 
 -- why an enclave can't be given a spare or be given back: there is none, or a line has it under way
-abbrev pub destroy_refusal : State → Option No
-destroy_refusal state = first_refusal (refuse (is_absent state) NoEnclave ∷ refuse (is_under_way state) (WrongState state) ∷ [])
+abbrev pub idle_refusal : State → Option No
+idle_refusal state = first_refusal (refuse (is_absent state) NoEnclave ∷ refuse (is_under_way state) (WrongState state) ∷ [])

@@ -11,7 +11,7 @@ use Rattle.pl_base.specs.declared.state.State.TheVariants as state_is
 use Rattle.pl_history.specs.declared.answer.Answer.TheVariants as answer_is
 use Rattle.pl_history.specs.declared.line.Line.TheVariants.{Create, Grant, Destroy}
 use Rattle.pl_base.specs.Pages.{first_twice}
-use Rattle.pl_base.specs.States.{destroy_refusal}
+use Rattle.pl_base.specs.States.{idle_refusal}
 use Rattle.pl_history.specs.GivingBack.{drop_refusal, dying, given_back}
 use Rattle.pl_history.specs.Legal.{AllowedAnswer, after_answer}
 use Rattle.pl_history.specs.Making.{first_barred, create_refusal, fork_refusal, grant_refusal, building, forking, made, sealed, granted}
@@ -143,7 +143,7 @@ never_of_destroy allowed = cc
 
 -- ---- `destroy` and `drop`
 
-destroys : map destroy_refusal (state_is.Free ∷ state_is.Building ∷ state_is.Fresh ∷ state_is.On ∷ state_is.Paused ∷ state_is.Ended ∷ state_is.Trapped ∷ state_is.Faulted ∷ state_is.Dying ∷ state_is.Sealed ∷ [])
+destroys : map idle_refusal (state_is.Free ∷ state_is.Building ∷ state_is.Fresh ∷ state_is.On ∷ state_is.Paused ∷ state_is.Ended ∷ state_is.Trapped ∷ state_is.Faulted ∷ state_is.Dying ∷ state_is.Sealed ∷ [])
     ≡ (Some no_is.NoEnclave ∷ Some (no_is.WrongState state_is.Building) ∷ None ∷ Some (no_is.WrongState state_is.On) ∷ None ∷ None ∷ None ∷ None ∷ Some (no_is.WrongState state_is.Dying) ∷ Some no_is.NoEnclave ∷ [])
 destroys = refl
 

@@ -7,7 +7,7 @@ use Rattle.std.proofs.lemmas.List.Elements.{All-append, All-contains, All-filter
 use Rattle.pl_base.specs.Address.{vpn_of}
 use Rattle.pl_base.specs.Pages.{first_twice, is_among, most_spares}
 use Rattle.pl_base.specs.Refusals.{first_refusal, refuse}
-use Rattle.pl_base.specs.States.{destroy_refusal, is_free, is_sealed}
+use Rattle.pl_base.specs.States.{idle_refusal, is_free, is_sealed}
 use Rattle.pl_base.specs.declared.address.Va.{Va}
 use Rattle.pl_base.specs.declared.refusal.No.{No}
 use Rattle.pl_base.specs.declared.refusal.No.TheVariants as refused
@@ -231,7 +231,7 @@ module _ (setup : SetupParts) where
     pub grant_takes : (e page : ℕ) → grant_refusal setup s e page ≡ None → MayTake s (page ∷ [])
     grant_takes e page is =
         let last : List (Option No) = refuse (nat_lt most_spares (length (s.number e).spares + 1)) refused.TooMany ∷ [] in
-        let first = first_none (destroy_refusal (s.number e).state) (page_refusals setup s (page ∷ []) ++ last) is in
+        let first = first_none (idle_refusal (s.number e).state) (page_refusals setup s (page ∷ []) ++ last) is in
         may_take s (page ∷ []) last first.1
 
     map_takes : (va : Va) (page : ℕ) → map_refusal setup s va page ≡ None → is_host (s.owner page) ≡ true

@@ -9,7 +9,7 @@ use Rattle.std.proofs.lemmas.List.Elements.{Contains-append_left, Contains-appen
 use Rattle.std.proofs.lemmas.List.FromFn.{get_or-range_with_len, length-range_with_len}
 use Rattle.pl_base.specs.Pages.{first_twice, is_among, most_spares}
 use Rattle.pl_base.specs.Refusals.{first_refusal, refuse}
-use Rattle.pl_base.specs.States.{destroy_refusal, is_absent, is_free, is_fresh, is_paused, is_sealed, is_under_way, is_wordless, run_refusal, state_left}
+use Rattle.pl_base.specs.States.{idle_refusal, is_absent, is_free, is_fresh, is_paused, is_sealed, is_under_way, is_wordless, run_refusal, state_left}
 use Rattle.pl_base.specs.declared.refusal.No.{No}
 use Rattle.pl_base.specs.declared.refusal.No.TheVariants as refused
 use Rattle.pl_base.specs.declared.state.State.{State}
@@ -103,7 +103,7 @@ may_fork setup s shadow e pages is =
     }
 
 -- a number that may be given a page, or be given back
-may_give : (state : State) → destroy_refusal state ≡ None → (is_wordless state ≡ false) × (is_under_way state ≡ false)
+may_give : (state : State) → idle_refusal state ≡ None → (is_wordless state ≡ false) × (is_under_way state ≡ false)
 may_give state is =
     let first = first_none (refuse (is_absent state) refused.NoEnclave) (refuse (is_under_way state) (refused.WrongState state) ∷ []) is in
     let absent = refuse_false (is_absent state) refused.NoEnclave first.0 in
@@ -113,7 +113,7 @@ may_give state is =
 few_spares : (setup : SetupParts) (s : Monitor) (e page : ℕ) → grant_refusal setup s e page ≡ None → length (s.number e).spares + 1 ≤ most_spares
 few_spares setup s e page is =
     let last : List (Option No) = refuse (nat_lt most_spares (length (s.number e).spares + 1)) refused.TooMany ∷ [] in
-    let first = first_none (destroy_refusal (s.number e).state) (page_refusals setup s (page ∷ []) ++ last) is in
+    let first = first_none (idle_refusal (s.number e).state) (page_refusals setup s (page ∷ []) ++ last) is in
     let final = first_none (refuse (nat_lt most_spares (length (s.number e).spares + 1)) refused.TooMany) [] (after_pages setup s (page ∷ []) last first.1) in
     ltb-false most_spares (length (s.number e).spares + 1) (refuse_false (nat_lt most_spares (length (s.number e).spares + 1)) refused.TooMany final.0)
 
@@ -341,7 +341,7 @@ module _ (setup : SetupParts) (s : Monitor) (stand : PagesStand setup s) (k : Sh
   granted_done hart line now e page inside ends is =
       let n = s.number e in
       let last : List (Option No) = refuse (nat_lt most_spares (length n.spares + 1)) refused.TooMany ∷ [] in
-      let may = may_give n.state (first_none (destroy_refusal n.state) (page_refusals setup s (page ∷ []) ++ last) is).0 in
+      let may = may_give n.state (first_none (idle_refusal n.state) (page_refusals setup s (page ∷ []) ++ last) is).0 in
       idle_done hart line now e (record n { spares = n.spares ++ page ∷ [] })
       (set_stands setup s.number k e (record n { spares = n.spares ++ page ∷ [] }) inside
       (granted_stands setup s.number k e page may.0 (absent (is_among (pages_taken n) page) refl) (few_spares setup s e page is))
@@ -355,7 +355,7 @@ module _ (setup : SetupParts) (s : Monitor) (stand : PagesStand setup s) (k : Sh
       absent true there = absurd (owned.not_both setup (s.owner page) e hosts (among (λ p. s.owner p ≡ Some (number e)) (pages_taken (s.number e)) page (stand.taken e) there))
       absent false none = none
 
-  dying_done : (hart : ℕ) (line : ActorLine) (e : ℕ) → e < setup.enclaves → destroy_refusal (s.number e).state ≡ None → number_of_line line ≡ Some e
+  dying_done : (hart : ℕ) (line : ActorLine) (e : ℕ) → e < setup.enclaves → idle_refusal (s.number e).state ≡ None → number_of_line line ≡ Some e
       → IsWay line state_is.Dying (s.number e).parent
       → IsDone (set_number e (record (s.number e) { state = state_is.Dying; live = false })) hart line answer_is.Begun
   dying_done hart line e inside is names way =

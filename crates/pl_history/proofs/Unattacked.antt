@@ -6,7 +6,7 @@ use Rattle.std.specs.Option.{option_map_or}
 use Rattle.std.proofs.lemmas.Bool.{false≢true, or_parts}
 use Rattle.pl_base.specs.Address.{vpn_of}
 use Rattle.pl_base.specs.Refusals.{first_refusal, refuse}
-use Rattle.pl_base.specs.States.{is_absent, is_fresh, is_paused, is_free, is_sealed, is_under_way, is_wordless, run_refusal, destroy_refusal}
+use Rattle.pl_base.specs.States.{is_absent, is_fresh, is_paused, is_free, is_sealed, is_under_way, is_wordless, run_refusal, idle_refusal}
 use Rattle.pl_base.specs.Perms.{grants}
 use Rattle.pl_base.specs.declared.access.Kind.{Kind}
 use Rattle.pl_base.specs.declared.access.Kind.TheVariants as kind_is
@@ -110,14 +110,14 @@ fork_faultless setup s shadow e pages =
     (pages_faultless setup s pages (refuse (nat_lt most_spares (length pages)) refused.TooMany ∷ [])
     (first_faultless (refuse (nat_lt most_spares (length pages)) refused.TooMany) [] (refuse_faultless _ refused.TooMany refl) tt))))
 
-destroy_faultless : (state : State) → NoFault (destroy_refusal state)
+destroy_faultless : (state : State) → NoFault (idle_refusal state)
 destroy_faultless state =
     first_faultless (refuse (is_absent state) refused.NoEnclave) _ (refuse_faultless _ refused.NoEnclave refl)
     (first_faultless (refuse (is_under_way state) (refused.WrongState state)) [] (refuse_faultless _ (refused.WrongState state) refl) tt)
 
 grant_faultless : (setup : SetupParts) (s : Monitor) (e page : ℕ) → NoFault (grant_refusal setup s e page)
 grant_faultless setup s e page =
-    first_faultless (destroy_refusal (s.number e).state) _ (destroy_faultless (s.number e).state)
+    first_faultless (idle_refusal (s.number e).state) _ (destroy_faultless (s.number e).state)
     (pages_faultless setup s (page ∷ []) (refuse (nat_lt most_spares (length (s.number e).spares + 1)) refused.TooMany ∷ [])
     (first_faultless (refuse (nat_lt most_spares (length (s.number e).spares + 1)) refused.TooMany) [] (refuse_faultless _ refused.TooMany refl) tt))
 
@@ -285,7 +285,7 @@ module _ (setup : SetupParts) (s : Monitor) (none : s.attacks ≡ []) where
       word_faultless : (o : Option ℕ) (x : Answer) → option_map answer_is.Word o ≡ Some x → says_fault x ≡ false
       word_faultless None x is = cc
       word_faultless (Some word) x is = cc
-  hart_faultless (line_is.Destroy e) begun now allowed = begins (destroy_refusal (s.number e.0).state) EndsDone begun now (destroy_faultless (s.number e.0).state) (done now) allowed
+  hart_faultless (line_is.Destroy e) begun now allowed = begins (idle_refusal (s.number e.0).state) EndsDone begun now (destroy_faultless (s.number e.0).state) (done now) allowed
   hart_faultless (line_is.Drop e) begun now allowed = at_once (drop_refusal setup s e.0) (Some answer_is.Ok) begun now (drop_faultless setup s e.0) (λ x is. cc) allowed
   hart_faultless (line_is.After actor count) false answer_is.Ok allowed = refl
   hart_faultless (line_is.After actor count) begun now allowed = absurd allowed

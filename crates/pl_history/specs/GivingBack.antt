@@ -4,7 +4,7 @@ use Rattle.std.specs.List.{range_with_len}
 use Rattle.pl_base.specs.Bytes.{zero_page}
 use Rattle.pl_base.specs.Pages.{is_among}
 use Rattle.pl_base.specs.Refusals.{refuse, first_refusal}
-use Rattle.pl_base.specs.States.{destroy_refusal, is_sealed}
+use Rattle.pl_base.specs.States.{idle_refusal, is_sealed}
 use Rattle.pl_base.specs.declared.refusal.No.{No}
 use Rattle.pl_base.specs.declared.refusal.No.TheVariants.{NoEnclave, InUse}
 use Rattle.pl_base.specs.declared.state.State.TheVariants.{Dying}
@@ -32,7 +32,7 @@ drop_refusal setup s e = first_refusal (
     ∷ [])
 
 abbrev pub AllowedDestroy : Monitor → ℕ → Bool → Answer → Type 0
-AllowedDestroy s e = Begins (destroy_refusal (s.number e).state) EndsDone
+AllowedDestroy s e = Begins (idle_refusal (s.number e).state) EndsDone
 
 abbrev pub AllowedDrop : SetupParts → Monitor → ℕ → Bool → Answer → Type 0
 AllowedDrop setup s e = AtOnce (drop_refusal setup s e) (Some answer_is.Ok)

@@ -6,7 +6,7 @@ use Rattle.pl_base.specs.declared.refusal.No.TheVariants.{Exists, Count, Twice, 
 use Rattle.pl_base.specs.declared.state.State.TheVariants as state_is
 use Rattle.pl_base.specs.Refusals.{refuse, first_refusal}
 use Rattle.pl_base.specs.Pages.{first_twice, most_spares}
-use Rattle.pl_base.specs.States.{destroy_refusal, is_free, is_sealed}
+use Rattle.pl_base.specs.States.{idle_refusal, is_free, is_sealed}
 use Rattle.rv_pmp.specs.Pmp.{page_allowed}
 use Rattle.pl_history.specs.declared.answer.Answer.{Answer}
 use Rattle.pl_history.specs.declared.answer.Answer.TheVariants as answer_is
@@ -63,7 +63,7 @@ abbrev pub grant_refusal : SetupParts → Monitor → ℕ → ℕ → Option No
 grant_refusal setup s e page =
     let n = s.number e in
     first_refusal (
-    destroy_refusal n.state
+    idle_refusal n.state
     ∷ (page_refusals setup s (page ∷ []) ++ refuse (nat_lt most_spares (length n.spares + 1)) TooMany ∷ []))
 
 -- ---- the answers

@@ -36,11 +36,13 @@ use Rattle.world_attack.specs.Room.{RoomForLine}
 use Rattle.world_attack.proofs.RoomLemmas.{room_for_lines}
 use Rattle.world_attack.specs.Lines.{KeepIsAnswered, KeepsAnsweredFor, is_attack, line_bytes}
 use Rattle.world_attack.proofs.LegalLemmas.{keeps_answered}
-use Rattle.world_core.specs.Conditions.{AreInside, CanAnswer, CanAttack, CanBreak, CanDrop, CanEndDestroy, CanFork, CanGo, CanMake, CanMap, CanPut, CanReach, CanRestart}
+use Rattle.world_events.specs.Conditions.{AreInside, CanAnswer, CanAttack, CanBreak, CanDrop, CanEndDestroy, CanFork, CanGo, CanMake, CanMap, CanPut, CanReach, CanRestart}
 use Rattle.world_core.proofs.TranslationConditions.{Fresh, can_acknowledge, can_destroy, can_end_unmap, can_map, can_seek_host, can_seek_next, can_unmap}
-use Rattle.world_core.specs.declared.dues.Due.{Due}
-use Rattle.world_core.specs.declared.dues.Due.TheVariants as due_is
-use Rattle.world_core.specs.Turns.{CanActor, CanAttackBy, CanDue, CanMapSoFar, CanSay, CanSayIdle, CanTurn, attack_of, due_of}
+use Rattle.world_events.specs.declared.dues.Due.{Due}
+use Rattle.world_events.specs.declared.dues.Due.TheVariants as due_is
+use Rattle.world_core.specs.Steps.{CanDue, CanMapSoFar, CanSay, CanSayIdle}
+use Rattle.world_core.specs.Turns.{CanActor, CanAttackBy, CanTurn}
+use Rattle.world_events.specs.Dues.{attack_of, due_of}
 use Rattle.world_machine.specs.declared.under.Under.{Under}
 use Rattle.world_machine.specs.declared.under.Under.TheVariants.{Breaking, Idle, Seeking, Removing, Destroying, Putting, Running}
 use Rattle.world_machine.specs.EnclavesAgree.{EnclaveStands, IsOwnOrShared}

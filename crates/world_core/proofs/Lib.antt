@@ -1,9 +1,6 @@
-pub mod BreakLemmas
 pub mod ConditionLemmas
-pub mod EventLemmas
 pub mod OpeningLemmas
 pub mod OverLemmas
-pub mod RecordLemmas
 pub mod ReportLemmas
 pub mod RoundLemmas
 pub mod TranslationConditions

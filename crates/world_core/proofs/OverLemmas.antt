@@ -6,13 +6,15 @@ use Rattle.std.proofs.lemmas.List.Folds.{list_all-append, list_all-map}
 use Rattle.pl_base.specs.declared.actor.Actor.{Actor}
 use Rattle.pl_base.specs.declared.actor.Actor.TheVariants as actor_is
 use Rattle.pl_base.specs.declared.number.HartSet.{HartSet}
-use Rattle.world_core.specs.declared.dues.Attack.{Attack}
-use Rattle.world_core.specs.declared.dues.Attack.TheVariants as attack_is
-use Rattle.world_core.specs.declared.dues.Due.{Due}
-use Rattle.world_core.specs.declared.dues.Due.TheVariants as due_is
-use Rattle.world_core.specs.Conditions.{pages_named}
+use Rattle.world_events.specs.declared.dues.Attack.{Attack}
+use Rattle.world_events.specs.declared.dues.Attack.TheVariants as attack_is
+use Rattle.world_events.specs.declared.dues.Due.{Due}
+use Rattle.world_events.specs.declared.dues.Due.TheVariants as due_is
+use Rattle.world_events.specs.Conditions.{pages_named}
 use Rattle.world_core.specs.Over.{ack_still, attack_still, attacker_still, due_still, hart_still}
-use Rattle.world_core.specs.Turns.{attack_of, attack_turn, due_of, due_turn}
+use Rattle.world_core.specs.Steps.{due_turn}
+use Rattle.world_core.specs.Turns.{attack_turn}
+use Rattle.world_events.specs.Dues.{attack_of, due_of}
 use Rattle.world_core.proofs.TurnLemmas.{attack_turn-line, due_turn-hart}
 use Rattle.world_machine.specs.declared.turned.Turned.TheVariants as turned
 use Rattle.world_machine.specs.declared.turned.Wait.TheVariants as wait

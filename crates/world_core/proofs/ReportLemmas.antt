@@ -8,7 +8,7 @@ use Rattle.mem_slots.specs.declared.slot_use.SlotUse.{SlotUse}
 use Rattle.mem_slots.specs.Slots.{Slot, use_of}
 use Rattle.world_machine.specs.declared.turned.Finished.{Finished}
 use Rattle.world_machine.specs.Worlds.{WorldData}
-use Rattle.world_core.specs.Parts.{collision_data}
+use Rattle.world_events.specs.Parts.{collision_data}
 use Rattle.world_core.specs.Report.{report_text, world_report}
 
 zones_of : (slots : List Slot) → map (λ (s : SlotUse). s.zone) (map use_of slots) ≡ map (λ (s : Slot). s.zone) slots

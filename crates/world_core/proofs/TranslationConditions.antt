@@ -29,8 +29,8 @@ use Rattle.mon_tables.specs.Tables.{root_of}
 use Rattle.pl_history.specs.HostMaps.{removed}
 use Rattle.pl_history.specs.Monitor.{maps_of}
 use Rattle.pl_history.proofs.HostMappings.{counts_one, legal_mappings}
-use Rattle.world_core.specs.Conditions.{CanAcknowledge, CanDestroy, CanEndUnmap, CanGo, CanMap, CanSeekData, CanSeekNext, CanUnmap}
-use Rattle.world_core.specs.Translating.{AsksInside, CanSeek, IsInside}
+use Rattle.world_events.specs.Conditions.{CanAcknowledge, CanDestroy, CanEndUnmap, CanGo, CanMap, CanSeekData, CanSeekNext, CanUnmap}
+use Rattle.world_events.specs.Translating.{AsksInside, CanSeek, IsInside}
 use Rattle.world_machine.specs.Accesses.{HasAcknowledged}
 use Rattle.world_machine.specs.FencesStand.{FenceStands, IsOfHost, removals_by}
 use Rattle.world_machine.specs.HostAccessing.{WordAccess, host_request, kind_of}

@@ -1,34 +1,34 @@
 -- Turns: that of a line without its pages is the line's, and what a turn that moves or rests leaves.
-use Rattle.std.proofs.Common.{◌≡◌, ◌≢◌, ℕ, List, [], Bool, true, false, Option, Some, None, is_some, option_map, refl, ap, ◌∙◌, sym, subst, if◌then◌else◌}
+use Rattle.std.proofs.Common.{◌≡◌, ◌≢◌, ℕ, List, [], Bool, true, false, Option, Some, None, is_some, refl, ap, ◌∙◌, sym, subst, if◌then◌else◌}
 use Rattle.std.specs.Prelude.{IsTrue, nat_le}
 use Rattle.pl_base.specs.declared.actor.Actor.{Actor}
 use Rattle.pl_base.specs.declared.actor.Actor.TheVariants as actor_is
-use Rattle.pl_base.specs.declared.number.HartNo.{HartNo}
 use Rattle.pl_base.specs.declared.number.HartSet.{HartSet}
-use Rattle.pl_base.specs.declared.number.Space.{Space}
 use Rattle.mem_slots.specs.declared.slot_use.SlotUse.{SlotUse}
-use Rattle.mon_fence.specs.Fences.{fence_of}
 use Rattle.pl_history.specs.declared.line.AttackLine.{AttackLine}
 use Rattle.pl_history.specs.declared.line.AttackLine.TheVariants as attack
 use Rattle.pl_history.specs.declared.line.Line.{Line}
 use Rattle.pl_history.specs.declared.line.Line.TheVariants as line_is
 use Rattle.pl_history.specs.Rules.{is_actor}
-use Rattle.world_core.specs.declared.dues.Due.{Due}
-use Rattle.world_core.specs.declared.dues.Due.TheVariants as due_is
-use Rattle.world_core.specs.Conditions.{pages_named}
-use Rattle.world_core.specs.Turns.{IsTurn, attack_of, attack_turn, begun_turn, due_of, due_turn, left_by, restarted_due, say_turn}
+use Rattle.world_events.specs.declared.dues.Due.{Due}
+use Rattle.world_events.specs.declared.dues.Due.TheVariants as due_is
+use Rattle.world_events.specs.Conditions.{pages_named}
 use Rattle.world_machine.specs.declared.turned.Turned.{Turned}
 use Rattle.world_machine.specs.declared.turned.Turned.TheVariants as turned
 use Rattle.world_machine.specs.declared.turned.Wait.TheVariants as wait
 use Rattle.world_machine.specs.declared.under.Under.{Under}
 use Rattle.world_machine.specs.declared.under.Under.TheVariants.{Idle, Seeking, Removing, Destroying, Putting, Running, Breaking}
-use Rattle.world_machine.specs.Acknowledging.{acknowledged, owed, restarted}
+use Rattle.world_machine.specs.Acknowledging.{owed}
 use Rattle.world_machine.specs.GivingBack.{ends_destroy}
 use Rattle.world_machine.specs.HostMapping.{ends_unmap, lacked_by}
 use Rattle.world_machine.specs.Running.{restarts}
 use Rattle.world_machine.specs.Steps as step
 use Rattle.world_machine.specs.Steps.{StepOf, Turn, moves, rests, actor_turn, attacker_turn, counted, due, turn_of, turned_by}
 use Rattle.world_machine.specs.Worlds.{Event, WorldData, answered_at, attacker_line, hart_line, under_at}
+use Rattle.world_events.specs.Turns.{IsTurn, left_by}
+use Rattle.world_events.specs.Dues.{attack_of, due_of}
+use Rattle.world_core.specs.Steps.{begun_turn, due_turn, say_turn}
+use Rattle.world_core.specs.Turns.{attack_turn}
 
 -- ---- lines without their pages and bytes
 
@@ -128,37 +128,6 @@ module _ (d : List ℕ → List ℕ) (w : WorldData) (hart : ℕ) (positions : L
   pub due_turn-hart : (line : Option Line) → due_turn d w hart positions (pages_named line) (due_of line) (under_at w.under hart) ≡ step.hart_turn d w hart positions line
   due_turn-hart None = nothing_due (under_at w.under hart)
   due_turn-hart (Some line) = due_turn-line line (under_at w.under hart)
-
--- a fence is acknowledged
-pub restarted-line : (space : Space) (line : Option Line) (under : Under) → restarted_due space (due_of line) under ≡ restarted space line under
-restarted-line space (Some (line_is.Run e budget)) Idle = refl
-restarted-line space (Some (line_is.Run e budget)) (Seeking walk) = refl
-restarted-line space (Some (line_is.Run e budget)) (Removing page) = refl
-restarted-line space (Some (line_is.Run e budget)) Destroying = refl
-restarted-line space (Some (line_is.Run e budget)) (Putting done) = refl
-restarted-line space (Some (line_is.Run e budget)) (Running micro count) = refl
-restarted-line space (Some (line_is.Run e budget)) (Breaking count) = refl
-restarted-line space (Some (line_is.Resume e budget)) Idle = refl
-restarted-line space (Some (line_is.Resume e budget)) (Seeking walk) = refl
-restarted-line space (Some (line_is.Resume e budget)) (Removing page) = refl
-restarted-line space (Some (line_is.Resume e budget)) Destroying = refl
-restarted-line space (Some (line_is.Resume e budget)) (Putting done) = refl
-restarted-line space (Some (line_is.Resume e budget)) (Running micro count) = refl
-restarted-line space (Some (line_is.Resume e budget)) (Breaking count) = refl
-restarted-line space (Some line) Idle = refl
-restarted-line space (Some line) (Seeking walk) = refl
-restarted-line space (Some line) (Removing page) = refl
-restarted-line space (Some line) Destroying = refl
-restarted-line space (Some line) (Putting done) = refl
-restarted-line space (Some line) (Running micro count) = refl
-restarted-line space (Some line) (Breaking count) = refl
-restarted-line space None Idle = refl
-restarted-line space None (Seeking walk) = refl
-restarted-line space None (Removing page) = refl
-restarted-line space None Destroying = refl
-restarted-line space None (Putting done) = refl
-restarted-line space None (Running micro count) = refl
-restarted-line space None (Breaking count) = refl
 
 pub attack_turn-line : (d : List ℕ → List ℕ) (w : WorldData) (line : Option AttackLine) → attack_turn w (attack_of line) ≡ attacker_turn d w line
 attack_turn-line d w None = refl
@@ -347,26 +316,3 @@ module _ (d : List ℕ → List ℕ) (gives : List SlotUse → ℕ → Type 0) (
     fits = record { actor = there; positions = turn.given };
     is = rests_still other ∙ (rested other).1;
   }
-
--- ---- the turn of an acknowledgement, by the requester that is owed
-
-owed_named : (requester : Option ℕ) (h : HartNo) → Some h ≡ option_map (λ (n : ℕ). record { 0 = n }) requester → requester ≡ Some h.0
-owed_named None h is = cc
-owed_named (Some n) h is = let same : h ≡ record { 0 = n } = cc in ap (λ (x : HartNo). Some x.0) (sym same)
-
-owed_none : (requester : Option ℕ) (given : Option HartNo) → given ≡ None → given ≡ option_map (λ (n : ℕ). record { 0 = n }) requester → requester ≡ None
-owed_none None given none is = refl
-owed_none (Some n) given none is = cc
-
-module _ (gives : List SlotUse → ℕ → Type 0) (w new : WorldData) (hart : ℕ) where
-  pub ack_moved : (requester : HartNo) → Some requester ≡ option_map (λ (n : ℕ). record { 0 = n }) (owed w.fences hart) → new ≡ acknowledged w hart requester.0 (fence_of w.fences requester.0)
-      → IsTurn gives (λ positions. step.ack_turn w hart (owed w.fences hart)) turned.Moved w new
-  ack_moved requester is now =
-      subst (λ o. IsTurn gives (λ positions. step.ack_turn w hart o) turned.Moved w new) (sym (owed_named (owed w.fences hart) requester is))
-      (record { positions = []; given = tt; is = now; says = λ others. refl })
-
-  pub ack_rested : (given : Option HartNo) → given ≡ None → given ≡ option_map (λ (n : ℕ). record { 0 = n }) (owed w.fences hart)
-      → IsTurn gives (λ positions. step.ack_turn w hart (owed w.fences hart)) turned.Nothing w w
-  ack_rested given none is =
-      subst (λ o. IsTurn gives (λ positions. step.ack_turn w hart o) turned.Nothing w w) (sym (owed_none (owed w.fences hart) given none is))
-      (record { positions = []; given = tt; is = refl; says = λ others. refl })

@@ -1,9 +1,4 @@
-pub mod Conditions
-pub mod Events
-pub mod HostAccessing
 pub mod Over
-pub mod Parts
 pub mod Report
-pub mod Running
-pub mod Translating
+pub mod Steps
 pub mod Turns

@@ -2,10 +2,10 @@
 use Rattle.std.specs.Prelude.{ℕ, ◌≡◌, ◌+◌, ◌==◌, nat_lt, Bool, true, false, List, [], length}
 use Rattle.pl_base.specs.declared.actor.Actor.TheVariants as actor_is
 use Rattle.pl_history.specs.Monitor.{line_count}
-use Rattle.world_core.specs.declared.dues.Attack.{Attack}
-use Rattle.world_core.specs.declared.dues.Attack.TheVariants as attack_is
-use Rattle.world_core.specs.declared.dues.Due.{Due}
-use Rattle.world_core.specs.declared.dues.Due.TheVariants as due_is
+use Rattle.world_events.specs.declared.dues.Attack.{Attack}
+use Rattle.world_events.specs.declared.dues.Attack.TheVariants as attack_is
+use Rattle.world_events.specs.declared.dues.Due.{Due}
+use Rattle.world_events.specs.declared.dues.Due.TheVariants as due_is
 use Rattle.world_machine.specs.declared.under.Under.{Under}
 use Rattle.world_machine.specs.declared.under.Under.TheVariants.{Idle, Seeking, Removing, Destroying, Putting, Running, Breaking}
 use Rattle.world_machine.specs.Runs.{is_still}

@@ -3,7 +3,7 @@ ghost use Rattle.std.specs.Prelude.{◌++◌, map, option_map};
 ghost use Rattle.std.specs.List.{flat_map};
 ghost use Rattle.pl_io.specs.Puts.{Puts};
 ghost use Rattle.pl_history.specs.Text.{line_end};
-ghost use Rattle.world_core.specs.Parts.{collision_data};
+ghost use Rattle.world_events.specs.Parts.{collision_data};
 ghost use Rattle.world_core.specs.Report.{collision_text, ending_text, mounted_text, report_text, root_text, zone_text};
 
 use mem_ctl::Collision;

@@ -9,14 +9,15 @@ ghost use Rattle.mem_slots.specs.Slots.{use_of};
 ghost use Rattle.pl_history.specs.Rules.{is_actor};
 ghost use Rattle.world_machine.specs.Adding.{AnswersAtMostOne, moves_after};
 ghost use Rattle.world_machine.specs.Reached.{Reached, opening_world};
-ghost use Rattle.world_core.specs.Parts.{collision_data};
+ghost use Rattle.world_events.specs.Parts.{collision_data};
 ghost use Rattle.world_machine.specs.Runs.{over_of};
 ghost use Rattle.world_machine.specs.Standing.{Kept};
 ghost use Rattle.world_machine.specs.Steps.{StepOf, turn_of, turned_by};
 ghost use Rattle.world_machine.specs.Worlds.{tlb_at};
 
-use crate::machine::Machine;
+use crate::over::over;
 use crate::report::put_report;
+use crate::turns::turn;
 use mem_ctl::Collision;
 use mem_slots::{Choice, SlotUse};
 use pl_base::{Actor, Failed, HartNo, Memory};
@@ -26,6 +27,7 @@ use pl_io::Sink;
 use rv_tlb::Tlb;
 use std::alloc::Global;
 use std::marker::Model;
+use world_events::Machine;
 use world_machine::{Finished, Turned, numbers_fit};
 
 /// A setup's harts, enclaves, memory controller and history, at some point of a run. Contracts see the world as plain data, and the rule
@@ -78,7 +80,7 @@ impl<D: Digester, F: Fn(&[SlotUse]) -> usize> World<D, F> {
         ensures moves { self.new.0.moves ≡ moves_after result self.old.0.moves }
         ensures choice { self.new.1 ≡ self.old.1 }
     {
-        self.machine.turn(actor)
+        turn(&mut self.machine, actor)
     }
 }
 
@@ -87,7 +89,7 @@ impl<D: Digester, F> World<D, F> {
     pub fn over(&self) -> Option<Finished>
         ensures { result ≡ over_of D.digest_of self.now.0 }
     {
-        self.machine.over()
+        over(&self.machine)
     }
 
     /// What every world keeps: turns reach it from the world that its run begins with, so its history is legal, and it stands to the abstract
@@ -103,21 +105,21 @@ impl<D: Digester, F> World<D, F> {
     pub fn collision(&self) -> Option<&Collision>
         ensures { option_map collision_data (option_copied result) ≡ self.now.0.collision }
     {
-        self.machine.collision.as_ref()
+        self.machine.collision()
     }
 
     /// How many events were made so far, up to the greatest count.
     pub fn moves(&self) -> u64
         ensures { result ≡ self.now.0.moves }
     {
-        self.machine.moves
+        self.machine.moves()
     }
 
     /// The setup of the run.
     pub fn setup(&self) -> &Setup
         ensures { result.now ≡ self.now.0.setup }
     {
-        &self.machine.setup
+        self.machine.setup()
     }
 
     /// What was answered so far: a legal history.
@@ -125,7 +127,7 @@ impl<D: Digester, F> World<D, F> {
         ensures history { result.now ≡ self.now.0.history }
         ensures kept { Kept D.digest_of self.now.0 }
     {
-        &self.machine.history
+        self.machine.history()
     }
 
     /// The translations that a hart has. The hart is there.
@@ -140,7 +142,7 @@ impl<D: Digester, F> World<D, F> {
     pub fn root(&self) -> [u8; 32]
         ensures { result ≡ self.now.0.ctl.root }
     {
-        self.machine.ctl.root()
+        self.machine.root()
     }
 
     /// The mounted zones with their uses, in order of mounting.
@@ -148,7 +150,7 @@ impl<D: Digester, F> World<D, F> {
         ensures list { result.now ≡ map use_of self.now.0.ctl.mounted }
         ensures few { length result.now ≤ self.now.0.ctl.slots }
     {
-        self.machine.ctl.mounted()
+        self.machine.mounted()
     }
 
     /// Writes the report of a run that is over: the root on chip, the mounted zones, and how it ended.
@@ -168,7 +170,6 @@ impl<D: Digester, F> World<D, F> {
         ensures { result ≡ self.1 }
     {
         let World { machine } = self;
-        let Machine { ctl, .. } = machine;
-        ctl.into_choice()
+        machine.into_choice()
     }
 }

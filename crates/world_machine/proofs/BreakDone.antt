@@ -29,9 +29,8 @@ use Rattle.mon_host.specs.Laws.{mirror_words}
 use Rattle.mon_image.specs.declared.image.Image.{Image}
 use Rattle.mon_life.specs.Pages.{leaves_of}
 use Rattle.mon_shadow.specs.BreakLaws.{PageIsCopied}
-use Rattle.mon_shadow.specs.Breaking.{vpn_of_page}
 use Rattle.mon_tables.specs.declared.number_tables.Leaf.{Leaf}
-use Rattle.mon_tables.specs.Space.{first_vpn, mapping_at}
+use Rattle.mon_tables.specs.Space.{first_vpn, mapping_at, vpn_of_page}
 use Rattle.mon_tables.specs.SpaceWalks.{NumberTables}
 use Rattle.mon_tables.specs.Tables.{number_slot, table_number}
 use Rattle.pl_history.specs.declared.line.Line.{Line}

@@ -25,7 +25,8 @@ use Rattle.mon_image.specs.declared.page.ImagePage.{ImagePage}
 use Rattle.mon_host.specs.Laws.{mirror_words, places_of}
 use Rattle.mon_life.specs.Pages.{leaves_of}
 use Rattle.mon_shadow.specs.BreakLaws.{HasCopied, SpareChanges}
-use Rattle.mon_shadow.specs.Breaking.{if_put, page_broken, page_copied, page_number_at, vpn_of_page}
+use Rattle.mon_shadow.specs.Breaking.{if_put, page_broken, page_copied, page_number_at}
+use Rattle.mon_tables.specs.Space.{vpn_of_page}
 use Rattle.mon_shadow.proofs.CopyLemmas.{copies_tell}
 use Rattle.mon_shadow.proofs.CopyTables.{copies_set_leaf}
 use Rattle.mon_fence.specs.Fences.{posted}

@@ -11,7 +11,7 @@ use Rattle.mon_enclave.specs.declared.enclave.Enclave.{Enclave}
 use Rattle.mon_enclave.specs.declared.enclave.PageKind.{PageKind}
 use Rattle.mon_enclave.specs.declared.enclave.PageKind.TheVariants.{Own, Shared}
 use Rattle.mon_enclave.specs.Records.{as_shared, enclave_at, free_enclave, is_shared, next_spare, with_enclave, with_own_page}
-use Rattle.mon_life.specs.Making.{begun_unless}
+use Rattle.mon_life.specs.Making.{taken_unless}
 use Rattle.mon_life.specs.Putting.{enclaves_after}
 use Rattle.mon_owner.specs.declared.owners.Owner.{Owner}
 use Rattle.world_machine.specs.Runs.{break_cost, shared_count}
@@ -74,7 +74,7 @@ shared_few kinds = omega (arith, count_by-le-length is_shared (map as_shared kin
 module _ (harts : ℕ) (all : List Enclave) where
   -- a line that is refused changes no record
   pub begun_shares : (refusal : Option No) (owners taken : List Owner) (making : List Enclave) → breaks_of harts making ≤ breaks_of harts all
-      → breaks_of harts (begun_unless refusal owners all taken making).enclaves ≤ breaks_of harts all
+      → breaks_of harts (taken_unless refusal owners all taken making).enclaves ≤ breaks_of harts all
   begun_shares (Some cause) owners taken making fewer = omega arith
   begun_shares None owners taken making fewer = fewer
 

@@ -15,7 +15,7 @@ use Rattle.mon_enclave.specs.declared.enclave.Enclave.{Enclave}
 use Rattle.mon_enclave.specs.declared.enclave.PageKind.TheVariants.{Own}
 use Rattle.mon_enclave.specs.Records.{built, enclave_at, start_context, with_enclave}
 use Rattle.mon_image.specs.declared.image.Image.{Image}
-use Rattle.mon_life.specs.Making.{CreateBegun, begun_unless, create_begun, create_refusal_of, taker}
+use Rattle.mon_life.specs.Making.{PagesTaken, taken_unless, create_begun, create_refusal_of, taker}
 use Rattle.mon_life.specs.Putting.{steps_of}
 use Rattle.mon_life.proofs.BegunLemmas.{free_pages}
 use Rattle.mon_owner.specs.declared.owners.Owner.{Owner}
@@ -165,11 +165,11 @@ module _ (digest_of : List ℕ → List ℕ) (room_stays : RoomStays) (w : World
 
   -- ---- the event, by whether it is refused
 
-  abbrev world_of : CreateBegun → WorldData
+  abbrev world_of : PagesTaken → WorldData
   world_of begun = begins_unless begun.refusal (record w { owners = begun.owners; enclaves = begun.enclaves }) hart (Putting 0)
 
-  abbrev began_by : Option No → CreateBegun
-  began_by o = begun_unless o w.owners w.enclaves (given_to w.owners pages (taker e.0 shadow))
+  abbrev began_by : Option No → PagesTaken
+  began_by o = taken_unless o w.owners w.enclaves (given_to w.owners pages (taker e.0 shadow))
       (with_enclave w.enclaves e.0 (built image (image_of w.setup image) pages (enclave_at w.enclaves e.0)))
 
   by_refusal : (o : Option No) → refusal ≡ o → Kept digest_of (world_of (began_by o))

@@ -4,7 +4,7 @@ use Rattle.std.specs.Prelude.{slice_set}
 use Rattle.std.specs.List.{All}
 use Rattle.std.proofs.lemmas.Bool.{false≢true}
 use Rattle.pl_base.specs.HartSet.{space_of_number}
-use Rattle.pl_base.specs.States.{destroy_refusal, is_free, is_under_way}
+use Rattle.pl_base.specs.States.{idle_refusal, is_free, is_under_way}
 use Rattle.pl_base.specs.declared.number.EncNo.{EncNo}
 use Rattle.pl_base.specs.declared.refusal.No.{No}
 use Rattle.pl_base.specs.declared.refusal.No.TheVariants.{NoEnclave}
@@ -62,7 +62,7 @@ use Rattle.world_machine.proofs.UnderWay.{some_same, under_way_busy}
 -- ---- a number that can be given back
 
 -- it isn't free, and no line has it under way
-rests_by : (state : State) → destroy_refusal state ≡ None → (is_free state ≡ false) × (is_under_way state ≡ false)
+rests_by : (state : State) → idle_refusal state ≡ None → (is_free state ≡ false) × (is_under_way state ≡ false)
 rests_by state_is.Free is = absurd (none_is _ is)
 rests_by state_is.Sealed is = absurd (none_is _ is)
 rests_by state_is.On is = absurd (none_is _ is)
@@ -78,8 +78,8 @@ rests_retired : (state : State) (retired n : ℕ) → is_under_way state ≡ fal
 rests_retired state_is.On retired n is agrees = absurd (false≢true (sym is))
 rests_retired state retired n is agrees = agrees
 
-rests_unsealed : (state : State) → destroy_refusal state ≡ None → state ≢ state_is.Sealed
-rests_unsealed state is sealed = none_is NoEnclave (sym (ap destroy_refusal sealed) ∙ is)
+rests_unsealed : (state : State) → idle_refusal state ≡ None → state ≢ state_is.Sealed
+rests_unsealed state is sealed = none_is NoEnclave (sym (ap idle_refusal sealed) ∙ is)
 
 module _ (digest_of : List ℕ → List ℕ) (room_stays : RoomStays) (w : WorldData) (k : Kept digest_of w) (none : w.collision ≡ None) (hart : ℕ) (below : hart < w.setup.harts)
     (e : EncNo) (here : hart_line w hart ≡ Some (Destroy e)) (idle : under_at w.under hart ≡ Idle) (there : e.0 < length w.enclaves) where
@@ -100,7 +100,7 @@ module _ (digest_of : List ℕ → List ℕ) (room_stays : RoomStays) (w : World
 
   -- ---- begun
 
-  module _ (passes : destroy_refusal r.state ≡ None) where
+  module _ (passes : idle_refusal r.state ≡ None) where
     used : is_free r.state ≡ false
     used = (rests_by r.state passes).0
 
@@ -148,7 +148,7 @@ module _ (digest_of : List ℕ → List ℕ) (room_stays : RoomStays) (w : World
 
     moves : LineMoves w hart under' w.answered (with_entry w.history (entry_now w hart answer_is.Begun)) s' Destroying (answered_at w.answered hart)
     moves = begun_line digest_of room_stays w k hart below (Destroy e) answer_is.Begun refl here
-        (subst (λ b. AllowedAnswer w.setup s (Destroy e) b answer_is.Begun) (sym not_begun) (ap destroy_refusal agrees.state ∙ passes))
+        (subst (λ b. AllowedAnswer w.setup s (Destroy e) b answer_is.Begun) (sym not_begun) (ap idle_refusal agrees.state ∙ passes))
         (dying s e.0) (λ actor. refl) Destroying refl refl
 
     -- ---- records
@@ -317,7 +317,7 @@ module _ (digest_of : List ℕ → List ℕ) (room_stays : RoomStays) (w : World
 
   by_refusal : (o : Option No) → destroy_refusal_of w.enclaves e.0 ≡ o → Kept digest_of (world_of (begun_by o))
   by_refusal (Some cause) is = answers_kept digest_of room_stays w k none hart below (Destroy e) (answer_is.No cause) refl here
-      (subst (λ b. AllowedAnswer w.setup s (Destroy e) b (answer_is.No cause)) (sym not_begun) (ap destroy_refusal agrees.state ∙ is)) refl (ap isnt_waiting idle)
+      (subst (λ b. AllowedAnswer w.setup s (Destroy e) b (answer_is.No cause)) (sym not_begun) (ap idle_refusal agrees.state ∙ is)) refl (ap isnt_waiting idle)
   by_refusal None is = begun_kept is
 
   -- an event that begins a `destroy` keeps what a world keeps

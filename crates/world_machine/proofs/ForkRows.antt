@@ -9,7 +9,7 @@ use Rattle.pl_base.specs.declared.number.EncNo.{EncNo}
 use Rattle.pl_base.specs.declared.refusal.No.{No}
 use Rattle.pl_base.specs.declared.state.State.TheVariants as state_is
 use Rattle.pl_base.specs.Pages.{first_twice}
-use Rattle.pl_base.specs.States.{is_free, is_sealed}
+use Rattle.pl_base.specs.States.{is_dying, is_free, is_sealed}
 use Rattle.rv_alone.specs.Alone.{context_of}
 use Rattle.rv_alone.specs.Flat.{Flat, start_of}
 use Rattle.mon_enclave.specs.declared.enclave.Enclave.{Enclave}
@@ -17,7 +17,7 @@ use Rattle.mon_enclave.specs.declared.enclave.PageKind.{PageKind}
 use Rattle.mon_enclave.specs.declared.enclave.PageKind.TheVariants.{Own, Shared}
 use Rattle.mon_enclave.specs.Records.{as_shared, enclave_at, forked, is_shared, with_enclave}
 use Rattle.mon_image.specs.declared.image.Image.{Image}
-use Rattle.mon_life.specs.Making.{CreateBegun, begun_unless, taker}
+use Rattle.mon_life.specs.Making.{PagesTaken, taken_unless, taker}
 use Rattle.mon_owner.specs.declared.owners.Owner.{Owner}
 use Rattle.mon_owner.specs.declared.owners.Owner.TheVariants as owner_is
 use Rattle.mon_owner.specs.Owners.{given_to}
@@ -35,7 +35,7 @@ use Rattle.world_attack.specs.Room.{RoomStays}
 use Rattle.world_machine.specs.declared.under.Under.TheVariants.{Idle, Putting}
 use Rattle.world_machine.specs.Answering.{answers, begins}
 use Rattle.world_machine.specs.BytesAgree.{PageAgrees}
-use Rattle.world_machine.specs.EnclavesAgree.{EnclaveStands, HasItsPages, IsOwnOrShared, IsOwn, is_made, is_dying}
+use Rattle.world_machine.specs.EnclavesAgree.{EnclaveStands, HasItsPages, IsOwnOrShared, IsOwn, is_made}
 use Rattle.world_machine.specs.LinesUnderWay.{IsForking, first_table_step}
 use Rattle.world_machine.specs.Making.{begin_fork, begins_unless, image_of}
 use Rattle.world_machine.specs.Pages.{flat_pages, numbers_of}
@@ -237,11 +237,11 @@ module _ (digest_of : List ℕ → List ℕ) (room_stays : RoomStays) (w : World
     begun_so : Kept digest_of (begins (record w { owners = owners'; enclaves = with_enclave w.enclaves e.0 r }) hart (Putting from_tables))
     begun_so = begun_kept digest_of room_stays w k none hart below line here idle e.0 pages (taker e.0 false) r n from_tables begins_making
 
-  abbrev world_of : CreateBegun → WorldData
+  abbrev world_of : PagesTaken → WorldData
   world_of begun = begins_unless begun.refusal (record w { owners = begun.owners; enclaves = begun.enclaves }) hart (Putting from_tables)
 
-  abbrev began_by : Option No → CreateBegun
-  began_by o = begun_unless o w.owners w.enclaves (given_to w.owners pages (taker e.0 false))
+  abbrev began_by : Option No → PagesTaken
+  began_by o = taken_unless o w.owners w.enclaves (given_to w.owners pages (taker e.0 false))
       (with_enclave w.enclaves e.0 (forked shadow source_now pages (enclave_at w.enclaves e.0)))
 
   by_refusal : (o : Option No) → refusal ≡ o → Kept digest_of (world_of (began_by o))

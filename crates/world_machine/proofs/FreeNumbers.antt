@@ -1,7 +1,7 @@
 -- In a legal history a number that is free has nothing: no pages, no spares, no parent, no words, and nothing of it was taken or has retired.
 use Rattle.std.proofs.Common.{◌≡◌, ℕ, ◌==◌, Bool, true, false, if◌then◌else◌, List, [], Option, None, refl, sym, ap, ◌∙◌, subst}
 use Rattle.pl_base.specs.Refusals.{refuse}
-use Rattle.pl_base.specs.States.{destroy_refusal, is_wordless, state_left}
+use Rattle.pl_base.specs.States.{idle_refusal, is_wordless, state_left}
 use Rattle.pl_base.specs.declared.refusal.No.{No}
 use Rattle.pl_base.specs.declared.refusal.No.TheVariants as refused
 use Rattle.pl_base.specs.declared.state.State.{State}
@@ -58,8 +58,8 @@ word_goes refusal gives true word never = absurd never
 word_goes refusal gives false word is = is.0
 
 -- a free number is given no page, and no word goes in or out
-not_given : (state : State) → destroy_refusal state ≡ None → state ≡ state_is.Free → ⊥
-not_given state none is = (let h : destroy_refusal state_is.Free ≡ None = ap destroy_refusal (sym is) ∙ none in cc)
+not_given : (state : State) → idle_refusal state ≡ None → state ≡ state_is.Free → ⊥
+not_given state none is = (let h : idle_refusal state_is.Free ≡ None = ap idle_refusal (sym is) ∙ none in cc)
 
 wordless : (state : State) → refuse (is_wordless state) refused.NoEnclave ≡ None → state ≡ state_is.Free → ⊥
 wordless state none is = (let h : refuse (is_wordless state_is.Free) refused.NoEnclave ≡ None = ap (λ (x : State). refuse (is_wordless x) refused.NoEnclave) (sym is) ∙ none in cc)
@@ -109,7 +109,7 @@ module _ (setup : SetupParts) (bytes : List ℕ) (e : ℕ) where
   line_stands s hart (line_is.Fork shadow d pages) false (answer_is.No cause) k allowed = k
   line_stands s hart (line_is.Grant d page) begun answer_is.Ok k allowed =
       let n : Number = s.number d.0 in
-      let goes : destroy_refusal n.state ≡ None = (first_none (destroy_refusal n.state) _ (ok_goes (grant_refusal setup s d.0 page) _ begun allowed)).0 in
+      let goes : idle_refusal n.state ≡ None = (first_none (idle_refusal n.state) _ (ok_goes (grant_refusal setup s d.0 page) _ begun allowed)).0 in
       set_stands s d.0 _ (λ h. absurd (not_given n.state goes h)) k
   line_stands s hart (line_is.Run d budget) begun answer_is.Begun k allowed = set_stands s d.0 _ (λ h. cc) k
   line_stands s hart (line_is.Run d budget) begun (answer_is.Left count why) k allowed = set_stands s d.0 _ (λ h. absurd (never_free why h)) k

@@ -7,7 +7,7 @@ use Rattle.std.proofs.lemmas.List.{length-append}
 use Rattle.std.proofs.lemmas.List.Elements.{All-from_recursion, All-weaker}
 use Rattle.pl_base.specs.Pages.{is_among, most_spares}
 use Rattle.pl_base.specs.Refusals.{first_refusal, refuse}
-use Rattle.pl_base.specs.States.{destroy_refusal, is_absent, is_free, is_under_way}
+use Rattle.pl_base.specs.States.{idle_refusal, is_absent, is_free, is_under_way}
 use Rattle.pl_base.specs.declared.number.EncNo.{EncNo}
 use Rattle.pl_base.specs.declared.refusal.No.{No}
 use Rattle.pl_base.specs.declared.refusal.No.TheVariants.{TooMany}
@@ -18,7 +18,7 @@ use Rattle.mon_enclave.specs.declared.enclave.PageKind.{PageKind}
 use Rattle.mon_enclave.specs.declared.enclave.PageKind.TheVariants.{Own, Shared}
 use Rattle.mon_enclave.specs.Records.{enclave_at, free_enclave, with_enclave, with_spare}
 use Rattle.mon_life.specs.Making as machine
-use Rattle.mon_life.specs.Making.{CreateBegun, begun_unless, taker}
+use Rattle.mon_life.specs.Making.{PagesTaken, taken_unless, taker}
 use Rattle.mon_owner.specs.declared.owners.Owner.{Owner}
 use Rattle.mon_owner.specs.declared.owners.Owner.TheVariants as owner_is
 use Rattle.mon_owner.specs.Owners.{given_to}
@@ -90,9 +90,9 @@ module _ (digest_of : List ℕ → List ℕ) (room_stays : RoomStays) (w : World
   refusal_is : refusal ≡ grant_refusal w.setup s e.0 page
   refusal_is =
       let many : Option No = refuse (nat_lt most_spares (r.given + 1)) TooMany in
-      behind (destroy_refusal r.state) (machine.page_refusals w.owners (pmp_of w.setup) (page ∷ []) ++ many ∷ []) (monitor.page_refusals w.setup s (page ∷ []) ++ many ∷ [])
+      behind (idle_refusal r.state) (machine.page_refusals w.owners (pmp_of w.setup) (page ∷ []) ++ many ∷ []) (monitor.page_refusals w.setup s (page ∷ []) ++ many ∷ [])
       (page_refusals_same w.setup w.owners s k.stands.owners (page ∷ []) (many ∷ []))
-      ∙ (λ i. first_refusal (destroy_refusal (sym agrees.state i)
+      ∙ (λ i. first_refusal (idle_refusal (sym agrees.state i)
       ∷ (monitor.page_refusals w.setup s (page ∷ []) ++ refuse (nat_lt most_spares (sym agrees.given i + 1)) TooMany ∷ [])))
 
   not_begun : is_begun (under_at w.under hart) ≡ false
@@ -296,11 +296,11 @@ module _ (digest_of : List ℕ → List ℕ) (room_stays : RoomStays) (w : World
 
   -- ---- the event, by whether it is refused
 
-  abbrev world_of : CreateBegun → WorldData
+  abbrev world_of : PagesTaken → WorldData
   world_of made = answers_by made.refusal (record w { owners = made.owners; enclaves = made.enclaves }) hart
 
-  abbrev made_by : Option No → CreateBegun
-  made_by o = begun_unless o w.owners w.enclaves (given_to w.owners (page ∷ []) (taker e.0 false)) (with_enclave w.enclaves e.0 (with_spare r page))
+  abbrev made_by : Option No → PagesTaken
+  made_by o = taken_unless o w.owners w.enclaves (given_to w.owners (page ∷ []) (taker e.0 false)) (with_enclave w.enclaves e.0 (with_spare r page))
 
   by_refusal : (o : Option No) → refusal ≡ o → Kept digest_of (world_of (made_by o))
   by_refusal (Some cause) is = answers_kept digest_of room_stays w k none hart below (Grant e page) (answer_is.No cause) refl here

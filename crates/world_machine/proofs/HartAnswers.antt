@@ -22,7 +22,7 @@ use Rattle.mon_host.specs.Mapping.{map_of}
 use Rattle.mon_host.specs.Unmapping.{unmap_begun}
 use Rattle.mon_owner.specs.declared.owners.Owner.{Owner}
 use Rattle.mon_life.specs.Destroying.{DestroyBegun, destroy_begun}
-use Rattle.mon_life.specs.Making.{CreateBegun, create_begun}
+use Rattle.mon_life.specs.Making.{PagesTaken, create_begun}
 use Rattle.mon_life.specs.Putting.{CreatePut, create_put}
 use Rattle.mon_life.specs.Running.{RunBegun, run_begun}
 use Rattle.mon_shadow.specs.Breaking.{PageBroken, page_broken}
@@ -103,12 +103,12 @@ module _ (digest_of : List ℕ → List ℕ) (w : WorldData) (hart : ℕ) where
 
   pub create_adds : (e image : ℕ) (pages : List ℕ) (shadow : Bool) → Adds w hart (begin_create w hart e image pages shadow).world
   create_adds e image pages shadow =
-      let begun : CreateBegun = create_begun w.owners w.enclaves (pmp_of w.setup) e image (image_of w.setup image) pages shadow in
+      let begun : PagesTaken = create_begun w.owners w.enclaves (pmp_of w.setup) e image (image_of w.setup image) pages shadow in
       begins_adds begun.refusal (record w { owners = begun.owners; enclaves = begun.enclaves }) (Putting 0) refl refl refl
 
   pub fork_adds : (shadow : EncNo) (e : ℕ) (pages : List ℕ) → Adds w hart (begin_fork w hart shadow e pages).world
   fork_adds shadow e pages =
-      let begun : CreateBegun = fork_begun w.owners w.enclaves (pmp_of w.setup) shadow e pages in
+      let begun : PagesTaken = fork_begun w.owners w.enclaves (pmp_of w.setup) shadow e pages in
       begins_adds begun.refusal (record w { owners = begun.owners; enclaves = begun.enclaves }) _ refl refl refl
 
   -- lines that are answered at once
@@ -118,7 +118,7 @@ module _ (digest_of : List ℕ → List ℕ) (w : WorldData) (hart : ℕ) where
   done_adds None ctl owners enclaves = answer_adds answer_is.Ok _ refl refl
 
   pub grant_adds : (e page : ℕ) → Adds w hart (grants_page w hart e page).world
-  grant_adds e page = let made : CreateBegun = grant_made w.owners w.enclaves (pmp_of w.setup) e page in done_adds made.refusal w.ctl made.owners made.enclaves
+  grant_adds e page = let made : PagesTaken = grant_made w.owners w.enclaves (pmp_of w.setup) e page in done_adds made.refusal w.ctl made.owners made.enclaves
 
   pub drop_adds : (shadow : ℕ) → Adds w hart (drops_shadow w hart shadow).world
   drop_adds shadow =

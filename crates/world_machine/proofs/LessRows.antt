@@ -16,7 +16,7 @@ use Rattle.mem_ctl.specs.Data.{Again, Collision, CtlData, Fault, Outcome, Value,
 use Rattle.mon_enclave.specs.declared.enclave.Enclave.{Enclave}
 use Rattle.mon_enclave.specs.Records.{built, enclave_at, forked, freed, with_enclave}
 use Rattle.mon_image.specs.declared.image.Image.{Image}
-use Rattle.mon_life.specs.Making.{CreateBegun, begun_unless, create_begun, taker}
+use Rattle.mon_life.specs.Making.{PagesTaken, taken_unless, create_begun, taker}
 use Rattle.mon_life.specs.Putting.{CreatePut, create_put, steps_of}
 use Rattle.mon_life.specs.Running.{RunBegun, entered, entered_unless, run_begun}
 use Rattle.mon_owner.specs.declared.owners.Owner.{Owner}
@@ -105,7 +105,7 @@ module _ (digest_of : List ℕ → List ℕ) (w : WorldData) (k : Kept digest_of
       → remaining (grants_page w hart e.0 page).world < remaining w
   unfolding grant_made
   grant_less e page here idle =
-      let made : CreateBegun = grant_made w.owners w.enclaves (pmp_of w.setup) e.0 page in
+      let made : PagesTaken = grant_made w.owners w.enclaves (pmp_of w.setup) e.0 page in
       answers_less (line_is.Grant e page) here idle made.refusal w.ctl made.owners made.enclaves
       (begun_shares w.setup.harts w.enclaves _ w.owners (given_to w.owners _ (taker e.0 false)) _ (shares_stay w.setup.harts w.enclaves e.0 _ refl))
 
@@ -147,7 +147,7 @@ module _ (digest_of : List ℕ → List ℕ) (w : WorldData) (k : Kept digest_of
       → under_at w.under hart ≡ Idle → remaining (begin_create w hart e.0 image pages shadow).world < remaining w
   unfolding create_begun
   begin_create_less shadow e image pages here idle =
-      let begun : CreateBegun = create_begun w.owners w.enclaves (pmp_of w.setup) e.0 image (image_of w.setup image) pages shadow in
+      let begun : PagesTaken = create_begun w.owners w.enclaves (pmp_of w.setup) e.0 image (image_of w.setup image) pages shadow in
       let own : count_of_own ≤ shared_count (enclave_at w.enclaves e.0) = (let n = own_none pages in omega arith) in
       begins_less (make_line shadow e image pages) here idle begun.refusal (record w { owners = begun.owners; enclaves = begun.enclaves }) (Putting 0) refl none refl
       (begun_shares w.setup.harts w.enclaves _ w.owners (given_to w.owners pages (taker e.0 shadow)) _ (shares_set w.setup.harts w.enclaves e.0 _ own))
@@ -221,7 +221,7 @@ module _ (digest_of : List ℕ → List ℕ) (w : WorldData) (k : Kept digest_of
           shares_more w.setup.harts w.enclaves e.0 (forked shadow source pages (enclave_at w.enclaves e.0)) 256 (omega (arith, stands.held.count, few, shared_few source.pages))
 
       begun_less : (o : Option No) → fork_refusal_of w.owners w.enclaves (pmp_of w.setup) shadow.0 e.0 pages ≡ o → (taken : List Owner)
-          → let begun : CreateBegun = begun_unless o w.owners w.enclaves taken making in
+          → let begun : PagesTaken = taken_unless o w.owners w.enclaves taken making in
           remaining (begins_unless begun.refusal (record w { owners = begun.owners; enclaves = begun.enclaves }) hart (Putting done)) < remaining w
       begun_less (Some cause) is taken = answer_less (line_is.Fork shadow e pages) here idle _ refl none refl (le_refl _) refl refl
       begun_less None is taken =

@@ -13,7 +13,8 @@ use Rattle.mon_enclave.specs.declared.enclave.Enclave.{Enclave}
 use Rattle.mon_enclave.specs.declared.enclave.PageKind.TheVariants.{Shared}
 use Rattle.mon_enclave.specs.Records.{enclave_at, has_room, next_spare, received_word, with_enclave, with_own_page}
 use Rattle.mon_fence.specs.Fences.{posted}
-use Rattle.mon_shadow.specs.Breaking.{if_put, page_broken, page_number_at, vpn_of_page}
+use Rattle.mon_shadow.specs.Breaking.{if_put, page_broken, page_number_at}
+use Rattle.mon_tables.specs.Space.{vpn_of_page}
 use Rattle.rv_alone.specs.declared.step.Act.{Act}
 use Rattle.rv_alone.specs.declared.step.Act.TheVariants.{Set, Load, Store, Call, Trap}
 use Rattle.rv_alone.specs.Effect.{act_of, advanced, loaded}

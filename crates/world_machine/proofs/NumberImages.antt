@@ -7,7 +7,7 @@ use Rattle.pl_base.specs.declared.number.EncNo.{EncNo}
 use Rattle.pl_base.specs.declared.number.Space.{Space}
 use Rattle.pl_base.specs.declared.state.State.{State}
 use Rattle.pl_base.specs.declared.state.State.TheVariants as state_is
-use Rattle.pl_base.specs.States.{is_sealed}
+use Rattle.pl_base.specs.States.{is_dying, is_sealed}
 use Rattle.rv_alone.specs.Alone.{alone}
 use Rattle.rv_tlb.specs.declared.tlb.TlbEntry.{TlbEntry}
 use Rattle.mon_enclave.specs.declared.enclave.Enclave.{Enclave}
@@ -17,7 +17,7 @@ use Rattle.mon_host.specs.Leaves.{host_space}
 use Rattle.pl_history.specs.declared.setup.SetupParts.{SetupParts}
 use Rattle.pl_history.specs.Monitor.{Monitor, Number, flat_image}
 use Rattle.world_machine.specs.Accesses.{IsHostWalk, IsNumberWalk}
-use Rattle.world_machine.specs.EnclavesAgree.{EnclaveStands, is_made, is_dying}
+use Rattle.world_machine.specs.EnclavesAgree.{EnclaveStands, is_made}
 use Rattle.world_machine.specs.NumberImages.{EachIsItsImage, HasNothing, HasPagesOf, IsItsImage, IsUntranslated, since_of}
 use Rattle.world_machine.specs.Making.{image_of}
 use Rattle.world_machine.specs.PagesAgree.{AreBroken, PagesAre, kinds_of, shared_by}

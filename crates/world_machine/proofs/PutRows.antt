@@ -8,7 +8,7 @@ use Rattle.pl_base.specs.declared.refusal.No.{No}
 use Rattle.pl_base.specs.declared.refusal.No.TheVariants as refused
 use Rattle.pl_base.specs.declared.state.State.{State}
 use Rattle.pl_base.specs.declared.state.State.TheVariants as state_is
-use Rattle.pl_base.specs.States.{is_free, is_sealed}
+use Rattle.pl_base.specs.States.{is_dying, is_free, is_sealed}
 use Rattle.rv_alone.specs.Flat.{Flat, on, start_of}
 use Rattle.mem_ctl.specs.Access.{Accessed, BothChange, BothStay, IsTampered, Leaves}
 use Rattle.mem_ctl.specs.Calls.{put_page_of}
@@ -35,7 +35,7 @@ use Rattle.world_machine.specs.declared.under.Under.{Under}
 use Rattle.world_machine.specs.declared.under.Under.TheVariants.{Idle, Putting}
 use Rattle.world_machine.specs.Answering.{answers, decided, goes_on, entry_now, with_entry}
 use Rattle.world_machine.specs.BytesAgree.{HasPut, PageAgrees}
-use Rattle.world_machine.specs.EnclavesAgree.{EnclaveStands, IsOwn, StateStands, StatusStands, is_made, is_dying}
+use Rattle.world_machine.specs.EnclavesAgree.{EnclaveStands, IsOwn, StateStands, StatusStands, is_made}
 use Rattle.world_machine.specs.LinesUnderWay.{HasBytes, IsPutting, LineUnderWay, number_under_way}
 use Rattle.world_machine.specs.Making.{image_of, put_next}
 use Rattle.world_machine.specs.Pages.{flat_pages, numbers_of}

@@ -5,7 +5,7 @@ use Rattle.pl_base.specs.declared.number.EncNo.{EncNo}
 use Rattle.pl_base.specs.declared.state.State.{State}
 use Rattle.pl_base.specs.declared.state.State.TheVariants as state_is
 use Rattle.pl_base.specs.Pages.{first_twice}
-use Rattle.pl_base.specs.States.{is_free, is_sealed}
+use Rattle.pl_base.specs.States.{is_dying, is_free, is_sealed}
 use Rattle.rv_alone.specs.Alone.{alone, context_of}
 use Rattle.rv_alone.specs.Flat.{Flat, Status, on, start_of}
 use Rattle.mon_enclave.specs.declared.enclave.Enclave.{Enclave}
@@ -18,11 +18,6 @@ use Rattle.pl_history.specs.Monitor.{Number, flat_image, number}
 use Rattle.pl_history.specs.Words.{sent_out}
 use Rattle.world_machine.specs.Pages.{flat_pages, numbers_of}
 use Rattle.world_machine.specs.RecordsAgree.{owner_of}
-
--- the number is given back
-abbrev pub is_dying : State → Bool
-is_dying state_is.Dying = true
-is_dying state = false
 
 -- an image that has ended runs no more, and one that is given back may have ended; any other may go on
 abbrev pub StatusStands : State → Status → Type 0

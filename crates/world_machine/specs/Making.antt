@@ -6,7 +6,7 @@ use Rattle.pl_base.specs.declared.refusal.No.TheVariants as refused
 use Rattle.mem_ctl.specs.Data.{going}
 use Rattle.mon_enclave.specs.Records.{enclave_at}
 use Rattle.mon_image.specs.declared.image.Image.{Image}
-use Rattle.mon_life.specs.Making.{CreateBegun, create_begun}
+use Rattle.mon_life.specs.Making.{PagesTaken, create_begun}
 use Rattle.mon_life.specs.Putting.{CreatePut, create_put}
 use Rattle.mon_shadow.specs.Forking.{fork_begun}
 use Rattle.mon_shadow.specs.Granting.{grant_made}
@@ -30,13 +30,13 @@ begins_unless None w hart under = begins w hart under
 -- as an enclave, or as a shadow
 abbrev pub begin_create : WorldData → ℕ → ℕ → ℕ → List ℕ → Bool → Event
 begin_create w hart e image pages shadow =
-    let begun : CreateBegun = create_begun w.owners w.enclaves (pmp_of w.setup) e image (image_of w.setup image) pages shadow in
+    let begun : PagesTaken = create_begun w.owners w.enclaves (pmp_of w.setup) e image (image_of w.setup image) pages shadow in
     quiet (begins_unless begun.refusal (record w { owners = begun.owners; enclaves = begun.enclaves }) hart (Putting 0))
 
 -- a forked number has its shadow's pages, so that the first step puts its root table
 abbrev pub begin_fork : WorldData → ℕ → EncNo → ℕ → List ℕ → Event
 begin_fork w hart shadow e pages =
-    let begun : CreateBegun = fork_begun w.owners w.enclaves (pmp_of w.setup) shadow e pages in
+    let begun : PagesTaken = fork_begun w.owners w.enclaves (pmp_of w.setup) shadow e pages in
     quiet (begins_unless begun.refusal (record w { owners = begun.owners; enclaves = begun.enclaves }) hart
     (Putting (length (image_of w.setup (enclave_at w.enclaves shadow.0).image).pages)))
 
@@ -61,5 +61,5 @@ answers_by None w hart = answers w hart answer_is.Ok
 -- the page is a spare of the number
 abbrev pub grants_page : WorldData → ℕ → ℕ → ℕ → Event
 grants_page w hart e page =
-    let made : CreateBegun = grant_made w.owners w.enclaves (pmp_of w.setup) e page in
+    let made : PagesTaken = grant_made w.owners w.enclaves (pmp_of w.setup) e page in
     quiet (answers_by made.refusal (record w { owners = made.owners; enclaves = made.enclaves }) hart)

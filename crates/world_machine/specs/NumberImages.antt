@@ -1,6 +1,6 @@
 -- An enclave number that is used again is its new image alone: nothing is left of what it was before.
 use Rattle.std.specs.Prelude.{◌≡◌, ℕ, ◌+◌, ◌||◌, Bool, true, false, List, [], slice_get, Some, None, Contains, option_map}
-use Rattle.pl_base.specs.States.{is_free, is_sealed}
+use Rattle.pl_base.specs.States.{is_dying, is_free, is_sealed}
 use Rattle.pl_base.specs.declared.state.State.TheVariants as state_is
 use Rattle.rv_alone.specs.Alone.{alone, context_of}
 use Rattle.rv_alone.specs.Flat.{Flat, start_of}
@@ -10,7 +10,7 @@ use Rattle.mon_enclave.specs.Records.{enclave_at}
 use Rattle.mon_image.specs.declared.image.Image.{Image}
 use Rattle.pl_history.specs.Monitor.{flat_image}
 use Rattle.world_machine.specs.Accesses.{walk_of}
-use Rattle.world_machine.specs.EnclavesAgree.{is_dying}
+use Rattle.world_machine.specs.EnclavesAgree.{}
 use Rattle.world_machine.specs.Pages.{flat_pages, numbers_of}
 use Rattle.world_machine.specs.PagesAgree.{AreBroken, kinds_of}
 use Rattle.world_machine.specs.RecordsAgree.{RetiredAgrees}

@@ -25,7 +25,8 @@ use Rattle.mon_enclave.specs.declared.enclave.Enclave.{Enclave}
 use Rattle.mon_enclave.specs.Records.{enclave_at, with_enclave, has_room, received_word}
 use Rattle.mon_image.specs.declared.page.ImagePage.{ImagePage}
 use Rattle.mon_life.specs.Running.{RunBegun, run_begun}
-use Rattle.mon_shadow.specs.Breaking.{PageBroken, page_broken, vpn_of_page}
+use Rattle.mon_shadow.specs.Breaking.{PageBroken, page_broken}
+use Rattle.mon_tables.specs.Space.{vpn_of_page}
 use Rattle.pl_history.specs.declared.answer.Answer.TheVariants as answer_is
 use Rattle.pl_history.specs.declared.setup.SetupParts.{SetupParts}
 use Rattle.world_machine.specs.declared.under.Under.TheVariants.{Breaking, Running}

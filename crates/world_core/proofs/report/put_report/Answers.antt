@@ -1,6 +1,6 @@
 use Rattle.std.proofs.Common.{◌++◌, map, option_map, sym, ◌∙◌}
 use Rattle.pl_io.proofs.PutsLemmas.{puts_second, puts_first_failed}
-use Rattle.world_core.specs.Parts.{collision_data}
+use Rattle.world_events.specs.Parts.{collision_data}
 use Rattle.world_core.specs.Report.{ending_text, mounted_text, root_text}
 use Rattle.world_core.proofs.report.put_report.Goals as goal
 

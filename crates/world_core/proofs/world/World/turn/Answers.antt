@@ -19,16 +19,16 @@ turn-requires-clause-can g c =
     can_actor d w kept (monitor_retired d w kept) c.args.actor (subst (λ v. IsTrue (is_actor v.0.setup.harts c.args.actor)) (sym c.self.view_is) c.requires.actor)
 
 pub invariant_of-self : goal.invariant_of-self
-invariant_of-self g c = reached_step g.D.Digester.digest_of (FnReturnsAt g.F.Fn c.self.inside.machine.1) c.self.inside.machine.0 c.turn.new.self.0 c.args.actor c.self.invariant c.turn.ensures.step
+invariant_of-self g c = reached_step g.D.Digester.digest_of (FnReturnsAt g.F.Fn c.self.inside.machine.1) c.self.inside.machine.0 c.turn.new.machine.0 c.args.actor c.self.invariant c.turn.ensures.step
 
 pub returns-clause-answer : goal.returns-clause-answer
 returns-clause-answer g c =
     let w = c.self.inside.machine.0 in
-    let answers = step_answers g.D.Digester.digest_of (FnReturnsAt g.F.Fn c.self.inside.machine.1) w c.args.actor c.turn.new.self.0 c.turn.ensures.step in
-    subst (λ v. AnswersAtMostOne v.0 c.args.actor c.turn.new.self.0) c.self.view_is answers
+    let answers = step_answers g.D.Digester.digest_of (FnReturnsAt g.F.Fn c.self.inside.machine.1) w c.args.actor c.turn.new.machine.0 c.turn.ensures.step in
+    subst (λ v. AnswersAtMostOne v.0 c.args.actor c.turn.new.machine.0) c.self.view_is answers
 
 pub returns-clause-moves : goal.returns-clause-moves
 returns-clause-moves g c =
     let w = c.self.inside.machine.0 in
-    let counts = step_counts g.D.Digester.digest_of (FnReturnsAt g.F.Fn c.self.inside.machine.1) w c.args.actor c.turn.new.self.0 c.turn.ensures.step c.turn.result c.turn.ensures.turned in
-    subst (λ v. c.turn.new.self.0.moves ≡ moves_after c.turn.result v.0.moves) c.self.view_is counts
+    let counts = step_counts g.D.Digester.digest_of (FnReturnsAt g.F.Fn c.self.inside.machine.1) w c.args.actor c.turn.new.machine.0 c.turn.ensures.step c.turn.result c.turn.ensures.turned in
+    subst (λ v. c.turn.new.machine.0.moves ≡ moves_after c.turn.result v.0.moves) c.self.view_is counts

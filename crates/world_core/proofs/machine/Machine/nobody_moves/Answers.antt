@@ -1,7 +1,0 @@
-use Rattle.world_core.proofs.OverLemmas.{nobody}
-use Rattle.world_core.proofs.machine.Machine.nobody_moves.Goals as goal
-
-pub returns : goal.returns
-returns g c =
-    nobody g.D.Digester.digest_of c.args.self.now.0 c.harts_still-harts.result c.acks_still-acks.result c.attacker_still-attacker.result
-    c.harts_still-harts.ensures c.acks_still-acks.ensures c.attacker_still-attacker.ensures

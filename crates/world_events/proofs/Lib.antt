@@ -1,0 +1,4 @@
+pub mod AcknowledgingLemmas
+pub mod BreakLemmas
+pub mod EventLemmas
+pub mod RecordLemmas

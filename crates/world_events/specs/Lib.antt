@@ -1,0 +1,9 @@
+pub mod Acknowledging
+pub mod Conditions
+pub mod Dues
+pub mod Events
+pub mod HostAccessing
+pub mod Parts
+pub mod Running
+pub mod Translating
+pub mod Turns

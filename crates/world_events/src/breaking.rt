@@ -1,0 +1,252 @@
+// Where no page serves an access: the enclave traps, or, where a page that it shares would, that is broken (copy on write), and the instruction
+// starts anew once every other hart has acknowledged that.
+ghost use Rattle.std.specs.Prelude.{◌≡◌, ◌≤◌, ◌<◌, ◌↔◌, IsTrue, OnErr, length, slice_get};
+ghost use Rattle.std.specs.Fn.{FnReturnsAt};
+ghost use Rattle.std.specs.Option.{IsSomeAnd, option_and_then, option_copied, option_map_or};
+ghost use Rattle.mem_ctl.specs.Results.{outcome_of};
+ghost use Rattle.mem_slots.specs.Choices.{NamesPosition};
+ghost use Rattle.mon_enclave.specs.Records.{enclave_at};
+ghost use Rattle.mon_fence.specs.Fences.{fence_of};
+ghost use Rattle.mon_shadow.specs.Breaking.{IsPageBroken, page_broken};
+ghost use Rattle.world_events.specs.Conditions.{CanBreak, CanBreakAt, CanLeave, CanRestart};
+ghost use Rattle.world_events.specs.Events.{IsEvent};
+ghost use Rattle.world_events.specs.Running.{break_goes, run_faults, run_now, runner};
+ghost use Rattle.world_events.specs.Turns.{IsTurn};
+ghost use Rattle.world_machine.specs.Answering.{decided};
+ghost use Rattle.world_machine.specs.HostMapping.{lacked_by};
+ghost use Rattle.world_machine.specs.Making.{image_of};
+ghost use Rattle.world_machine.specs.Pages.{fault_cause, page_for, shared_place, to_break};
+ghost use Rattle.world_machine.specs.Running.{breaks_or_leaves, breaks_page, page_faults, perms_at, restarts};
+ghost use Rattle.world_machine.specs.Steps.{waiting_turn};
+
+use crate::machine::Machine;
+use crate::making::image_at;
+use crate::running::Run;
+use mem_ctl::Broken;
+use mem_slots::SlotUse;
+use mon_enclave::PageKind;
+use mon_image::ImagePage;
+use mon_shadow::break_page;
+use mon_tables::vpn_of_page;
+use pl_base::{EncNo, HartNo, IMAGE_START, Kind, PAGE_BYTES, Perms, Space, Why};
+use pl_digest::Digester;
+use rv_hart::{Micro, Walk};
+use world_machine::{Turned, Under, Wait};
+
+/// The cause of the trap where no page lets an access through.
+fn fault_cause(kind: Kind) -> u8
+    ensures { result ≡ fault_cause kind }
+{
+    match kind {
+        Kind::Fetch => 12,
+        Kind::Load => 13,
+        Kind::Store => 15,
+    }
+}
+
+/// The place in the image of a page that an access would store to but for its being shared.
+fn shared_place(kind: Kind, page: PageKind, place: u32) -> Option<u32>
+    ensures { result ≡ shared_place kind page place }
+{
+    match (kind, page) {
+        (Kind::Store, PageKind::Shared(_)) => Some(place),
+        _ => None,
+    }
+}
+
+/// That of the page at a place.
+fn shared_at(kind: Kind, pages: &[PageKind], place: usize) -> Option<u32>
+    requires { length pages.now ≤ 256 }
+    ensures { result ≡ option_and_then (λ page. shared_place kind page place) (slice_get pages.now place) }
+{
+    match pages.get(place) {
+        Some(page) => shared_place(kind, *page, place as u32),
+        None => None,
+    }
+}
+
+/// This number, where a page of the image lets an access of a kind through.
+fn page_for(kind: Kind, page: Option<&ImagePage>, number: Option<u32>) -> Option<u32>
+    ensures { result ≡ page_for kind (option_copied page.entry) number }
+{
+    match page {
+        Some(page) => if page.perms.grants(kind) {
+            number
+        } else {
+            None
+        },
+        None => None,
+    }
+}
+
+/// The place in the image of the page that an access is to break: one that it would store to but for its being shared.
+fn to_break(kind: Kind, image: &[ImagePage], pages: &[PageKind], address: u64) -> Option<u32>
+    requires { length pages.now ≤ 256 }
+    ensures { result ≡ to_break kind image.now pages.now address }
+{
+    if address < IMAGE_START {
+        return None;
+    }
+    let place = ((address - IMAGE_START) / PAGE_BYTES) as usize;
+    page_for(kind, image.get(place), shared_at(kind, pages, place))
+}
+
+/// What may be done with a page of an image.
+fn perms_in(image: &[ImagePage], index: u32) -> Perms
+    ensures { result ≡ option_map_or (λ page. page.perms) (slice_get image.now index) (record { 0 = 0 }) }
+{
+    match image.get(index as usize) {
+        Some(page) => page.perms,
+        None => Perms(0),
+    }
+}
+
+impl<D: Digester, F> Machine<D, F> {
+    /// The place in the image of the page that an access of a number is to break.
+    fn to_break(&self, e: EncNo, kind: Kind, address: u64) -> Option<u32>
+        requires number { e.0 < length self.now.0.enclaves }
+        requires image { (enclave_at self.now.0.enclaves e.0).image < length self.now.0.setup.images }
+        ensures { result ≡ to_break kind (image_of self.now.0.setup (enclave_at self.now.0.enclaves e.0).image).pages (enclave_at self.now.0.enclaves e.0).pages address }
+    {
+        let enclave = self.enclaves.get(e);
+        let image = image_at(self.setup.parts(), enclave.image);
+        to_break(
+            kind,
+            image.pages.as_slice(),
+            enclave.pages.as_slice(),
+            address,
+        )
+    }
+
+    /// What may be done with a page of a number's image.
+    fn perms_at(&self, e: EncNo, index: u32) -> Perms
+        requires number { e.0 < length self.now.0.enclaves }
+        requires image { (enclave_at self.now.0.enclaves e.0).image < length self.now.0.setup.images }
+        ensures { result ≡ perms_at self.now.0.setup (enclave_at self.now.0.enclaves e.0) index }
+    {
+        let enclave = self.enclaves.get(e);
+        let image = image_at(self.setup.parts(), enclave.image);
+        perms_in(image.pages.as_slice(), index)
+    }
+
+    /// Whether a number has a spare.
+    fn has_spare(&self, e: EncNo) -> bool
+        requires { e.0 < length self.now.0.enclaves }
+        ensures { IsTrue result ↔ (0 < length (enclave_at self.now.0.enclaves e.0).spares) }
+    {
+        !self.enclaves.get(e).spares.as_slice().is_empty()
+    }
+
+    /// What the break of a page came to. The hart drops its own translation of the page at once.
+    fn broke(&mut self, run: Run, index: u32, done: Result<(), Broken>)
+        requires can { OnErr done (CanLeave self.old.0 (run_now run)) }
+        requires harts { run.hart.0 < length self.old.0.under }
+        requires tlbs { run.hart.0 < length self.old.0.tlbs }
+        ensures { self.new ≡ (decided self.old.0 (break_goes (run_now run) index self.old.0) (run_faults (run_now run) self.old.0) (outcome_of done), self.old.1) }
+    {
+        match done {
+            Ok(()) => {
+                self.drop_from(run.hart, Space::of_number(run.e), Some(vpn_of_page(index)));
+                self.go_on(run.hart, Under::Breaking { count: run.count });
+            }
+            Err(Broken::Fault(place)) => self.leave(run, run.count, Why::Fault(place)),
+            Err(Broken::Collision(collision)) => self.keep(collision),
+        }
+    }
+
+    /// The instruction starts anew, since nobody is lacking for the hart's fence, which it leaves.
+    fn restart(&mut self, hart: HartNo, count: u32)
+        requires hart { hart.0 < length self.old.0.under }
+        requires nobody { IsSomeAnd (fence_of self.old.0.fences hart.0) (λ fence. fence.need.0 ≡ 0) }
+        ensures { self.new ≡ (restarts self.old.0 hart.0 count, self.old.1) }
+    {
+        self.fences.leave(hart);
+        let under = Under::Running {
+            micro: Micro::Fetching(Walk::Start),
+            count,
+        };
+        self.go_on(hart, under);
+    }
+}
+
+impl<D: Digester, F: Fn(&[SlotUse]) -> usize> Machine<D, F> {
+    /// The shared page is copied into the next spare, which takes its place, and the hart posts a fence of its address.
+    fn copy_page(&mut self, run: Run, index: u32) -> Result<(), Broken>
+        requires can { CanBreakAt self.old.0 (run_now run) index }
+        requires spare { 0 < length (runner self.old.0 (run_now run)).spares }
+        requires choice { NamesPosition F.Fn self.old.1 }
+        ensures event { IsPageBroken (FnReturnsAt F.Fn self.old.1)
+            (page_broken D.digest_of self.old.0.setup.tables run.hart.0 run.e index (perms_at self.old.0.setup (runner self.old.0 (run_now run)) index) self.old.0.enclaves self.old.0.fences)
+            self.old.0.ctl (outcome_of result) self.new.0.ctl self.new.0.enclaves self.new.0.fences }
+        ensures records { OnErr result (self.new.0.enclaves ≡ self.old.0.enclaves) }
+        ensures rest { self.new ≡ (record self.old.0 { ctl = self.new.0.ctl; enclaves = self.new.0.enclaves; fences = self.new.0.fences }, self.old.1) }
+    {
+        let perms = self.perms_at(run.e, index);
+        let tables = self.setup.parts().tables;
+        break_page(
+            &mut self.ctl,
+            &mut self.enclaves,
+            &mut self.fences,
+            tables,
+            run.hart,
+            run.e,
+            index,
+            perms,
+        )
+    }
+
+    /// A page is broken, for which there is a spare.
+    fn break_page(&mut self, run: Run, index: u32)
+        requires can { CanBreakAt self.old.0 (run_now run) index }
+        requires spare { 0 < length (runner self.old.0 (run_now run)).spares }
+        requires choice { NamesPosition F.Fn self.old.1 }
+        ensures event { IsEvent (FnReturnsAt F.Fn self.old.1) (λ positions. breaks_page D.digest_of self.old.0 (run_now run) (runner self.old.0 (run_now run)) positions index) self.new.0 }
+        ensures choice { self.new.1 ≡ self.old.1 }
+    {
+        let done = self.copy_page(run, index);
+        self.broke(run, index, done);
+    }
+
+    /// A page is to be broken, which needs a spare.
+    fn break_or_leave(&mut self, run: Run, index: u32)
+        requires can { CanBreakAt self.old.0 (run_now run) index }
+        requires choice { NamesPosition F.Fn self.old.1 }
+        ensures event { IsEvent (FnReturnsAt F.Fn self.old.1) (λ positions. breaks_or_leaves D.digest_of self.old.0 (run_now run) (runner self.old.0 (run_now run)) positions index
+            (runner self.old.0 (run_now run)).spares) self.new.0 }
+        ensures choice { self.new.1 ≡ self.old.1 }
+    {
+        if self.has_spare(run.e) {
+            self.break_page(run, index);
+        } else {
+            self.leave(run, run.count, Why::NeedPage);
+        }
+    }
+
+    /// No page serves an access: a page that the enclave shares is broken, or the enclave traps.
+    pub(crate) fn page_fault(&mut self, run: Run, kind: Kind, address: u64)
+        requires can { CanBreak self.old.0 (run_now run) }
+        requires choice { NamesPosition F.Fn self.old.1 }
+        ensures event { IsEvent (FnReturnsAt F.Fn self.old.1) (λ positions. page_faults D.digest_of self.old.0 (run_now run) (runner self.old.0 (run_now run)) positions kind address) self.new.0 }
+        ensures choice { self.new.1 ≡ self.old.1 }
+    {
+        match self.to_break(run.e, kind, address) {
+            Some(index) => self.break_or_leave(run, index),
+            None => self.trap(run, fault_cause(kind), address),
+        }
+    }
+
+    /// The turn of a run that broke a page: it waits for the harts that have yet to acknowledge its fence.
+    pub fn breaking_turn(&mut self, hart: HartNo, count: u32) -> Turned
+        requires can { CanRestart self.old.0 hart.0 }
+        ensures turn { IsTurn (FnReturnsAt F.Fn self.old.1) (λ positions. waiting_turn (restarts self.old.0 hart.0 count) (lacked_by self.old.0 hart.0)) result self.old.0 self.new.0 }
+        ensures choice { self.new.1 ≡ self.old.1 }
+    {
+        match self.fences.waits(hart) {
+            Some(harts) => Turned::Blocked(Wait::Acks(harts)),
+            None => {
+                self.restart(hart, count);
+                Turned::Moved
+            }
+        }
+    }
+}

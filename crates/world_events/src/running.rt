@@ -1,0 +1,92 @@
+// How `run` and `resume` begin, and how a run goes on or is left.
+ghost use Rattle.std.specs.Prelude.{◌≡◌, ◌<◌, ◌-◌, ◌^◌, length};
+ghost use Rattle.mon_enclave.specs.Records.{enclave_at};
+ghost use Rattle.world_events.specs.Conditions.{CanGo, CanLeave, CanRun, with_record};
+ghost use Rattle.world_events.specs.Running.{run_now};
+ghost use Rattle.world_machine.specs.Running.{begin_run, fetches_next, leaves, retired_with, retires, traps};
+
+use crate::machine::Machine;
+use mon_life::run_begin;
+use pl_base::{EncNo, HartNo, Why};
+use pl_digest::Digester;
+use pl_history::Answer;
+use rv_alone::Context;
+use rv_hart::{Micro, Walk};
+use world_machine::Under;
+
+/// A run under way: its hart, its number, the budget, and how many instructions retired since the line began.
+#[derive(Clone, Copy)]
+pub struct Run {
+    pub hart: HartNo,
+    pub e: EncNo,
+    pub budget: u32,
+    pub count: u32,
+}
+
+impl<D: Digester, F> Machine<D, F> {
+    /// `run` begins, and `resume`, which isn't the first run.
+    pub fn begin_run(&mut self, hart: HartNo, e: EncNo, first: bool)
+        requires can { CanGo self.old.0 hart.0 }
+        requires number { e.0 < length self.old.0.enclaves }
+        ensures { self.new ≡ ((begin_run self.old.0 hart.0 e.0 first).world, self.old.1) }
+    {
+        let begun = run_begin(&mut self.enclaves, hart, e, first);
+        let under = Under::Running {
+            micro: Micro::Fetching(Walk::Start),
+            count: 0,
+        };
+        self.begin_unless(hart, under, begun);
+    }
+
+    /// The hart's next event is about the next instruction, after so many.
+    fn fetch_next(&mut self, run: Run, count: u32)
+        requires { run.hart.0 < length self.old.0.under }
+        ensures { self.new ≡ (fetches_next self.old.0 (run_now run) count, self.old.1) }
+    {
+        let under = Under::Running {
+            micro: Micro::Fetching(Walk::Start),
+            count,
+        };
+        self.go_on(run.hart, under);
+    }
+
+    /// The run leaves its enclave, and shows all words that the enclave sent out.
+    pub(crate) fn leave(&mut self, run: Run, count: u32, why: Why)
+        requires { CanLeave self.old.0 (run_now run) }
+        ensures { self.new ≡ (leaves self.old.0 (run_now run) (enclave_at self.old.0.enclaves run.e.0) count why, self.old.1) }
+    {
+        self.enclaves.left(run.e, why);
+        self.answer(run.hart, Answer::Left { count, why });
+    }
+
+    /// One more instruction of a number is retired, and leaves this context.
+    pub(crate) fn set_context(&mut self, e: EncNo, context: Context)
+        requires number { e.0 < length self.old.0.enclaves }
+        requires count { (enclave_at self.old.0.enclaves e.0).retired < 2 ^ 64 - 1 }
+        ensures { self.new ≡ (with_record self.old.0 e.0 (retired_with (enclave_at self.old.0.enclaves e.0) context), self.old.1) }
+    {
+        self.enclaves.retire(e, context);
+    }
+
+    /// An instruction retires, and leaves this context.
+    pub(crate) fn retire(&mut self, run: Run, context: Context)
+        requires { CanRun self.old.0 (run_now run) }
+        ensures { self.new ≡ (retires self.old.0 (run_now run) (retired_with (enclave_at self.old.0.enclaves run.e.0) context), self.old.1) }
+    {
+        self.set_context(run.e, context);
+        let count = run.count + 1;
+        if count == run.budget {
+            self.leave(run, count, Why::Budget);
+        } else {
+            self.fetch_next(run, count);
+        }
+    }
+
+    /// The run leaves its enclave, since it traps.
+    pub(crate) fn trap(&mut self, run: Run, cause: u8, value: u64)
+        requires { CanLeave self.old.0 (run_now run) }
+        ensures { self.new ≡ (traps self.old.0 (run_now run) (enclave_at self.old.0.enclaves run.e.0) cause value, self.old.1) }
+    {
+        self.leave(run, run.count, Why::Trapped { cause, value });
+    }
+}
