@@ -15,20 +15,31 @@ use pl_history::{AttackLine, Line, SetupParts};
 pub enum Due {
     /// No line.
     Nothing,
+    /// `load`.
     Load { va: Va },
+    /// `store`.
     Store { va: Va, word: u64 },
+    /// `map`.
     Map { va: Va, page: u32, perms: Perms },
+    /// `unmap`.
     Unmap { va: Va },
     /// `create`, or where it is a shadow, `shadow`.
     Create { e: EncNo, image: u8, shadow: bool },
+    /// `fork`, of shadow `s`.
     Fork { s: EncNo, e: EncNo },
+    /// `grant`.
     Grant { e: EncNo, page: u32 },
     /// `run`, where it is the first run, and else `resume`.
     Run { e: EncNo, budget: u32, first: bool },
+    /// `send`.
     Send { e: EncNo, word: u64 },
+    /// `take`.
     Take { e: EncNo },
+    /// `destroy`.
     Destroy { e: EncNo },
+    /// `drop`, of shadow `s`.
     Drop { s: EncNo },
+    /// `after`: it waits for so many answered lines of an actor.
     After { actor: u8, count: u32 },
 }
 
@@ -108,6 +119,7 @@ pub enum Attack {
     Nothing,
     /// `write`, `keep` or `back`.
     Line,
+    /// `after`: it waits for so many answered lines of an actor.
     After { actor: u8, count: u32 },
 }
 

@@ -29,7 +29,9 @@ const WORD_BYTES: u8 = 8;
 /// A load, or a store of a word.
 #[derive(Clone, Copy)]
 pub enum WordAccess {
+    /// A load.
     Load,
+    /// A store of this word.
     Store { word: u64 },
 }
 

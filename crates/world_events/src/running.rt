@@ -14,12 +14,14 @@ use rv_alone::Context;
 use rv_hart::{Micro, Walk};
 use world_machine::Under;
 
-/// A run under way: its hart, its number, the budget, and how many instructions retired since the line began.
+/// A run under way, with its hart and its number.
 #[derive(Clone, Copy)]
 pub struct Run {
     pub hart: HartNo,
     pub e: EncNo,
+    /// How many instructions the line may retire.
     pub budget: u32,
+    /// How many retired since the line began.
     pub count: u32,
 }
 
