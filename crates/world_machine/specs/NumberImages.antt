@@ -10,7 +10,6 @@ use Rattle.mon_enclave.specs.Records.{enclave_at}
 use Rattle.mon_image.specs.declared.image.Image.{Image}
 use Rattle.pl_history.specs.Monitor.{flat_image}
 use Rattle.world_machine.specs.Accesses.{walk_of}
-use Rattle.world_machine.specs.EnclavesAgree.{}
 use Rattle.world_machine.specs.Pages.{flat_pages, numbers_of}
 use Rattle.world_machine.specs.PagesAgree.{AreBroken, kinds_of}
 use Rattle.world_machine.specs.RecordsAgree.{RetiredAgrees}
