@@ -287,8 +287,8 @@ module _ (d : List ℕ → List ℕ) (w : WorldData) (k : Kept d w) where
       }
 
     -- a page was broken
-    can_restart : (e : EncNo) → IsBreaking (fence_of w.fences hart) e.0 → CanRestart w hart
-    can_restart e broke = record {
+    can_restart : (e : EncNo) (index : ℕ) → IsBreaking (fence_of w.fences hart) e.0 index → CanRestart w hart
+    can_restart e index broke = record {
       harts = omega (arith, k.sizes.harts, below);
       fences = omega (arith, k.stands.translations.fences_stand.size, below);
       fence = broke.posted;
@@ -333,7 +333,7 @@ module _ (d : List ℕ → List ℕ) (w : WorldData) (k : Kept d w) where
     idle_only due Destroying can = tt
     idle_only due (Putting done) can = tt
     idle_only due (Running micro count) can = tt
-    idle_only due (Breaking count) can = tt
+    idle_only due (Breaking count index) can = tt
 
     map_only : (page : ℕ) (perms : Perms) (under : Under) → CanMap w hart page perms → CanMapSoFar w hart page perms under
     map_only page perms Idle can = can
@@ -342,7 +342,7 @@ module _ (d : List ℕ → List ℕ) (w : WorldData) (k : Kept d w) where
     map_only page perms Destroying can = tt
     map_only page perms (Putting done) can = tt
     map_only page perms (Running micro count) can = tt
-    map_only page perms (Breaking count) can = tt
+    map_only page perms (Breaking count index) can = tt
 
     -- what the hart's line needs, so far
     module _ (bound : (e : ℕ) → ((state_of w).number e).retired ≤ 2 ^ 48) where
@@ -357,14 +357,14 @@ module _ (d : List ℕ → List ℕ) (w : WorldData) (k : Kept d w) where
       can_due (Some (line_is.Load va)) Destroying here at so_far walks removal giving = tt
       can_due (Some (line_is.Load va)) (Putting done) here at so_far walks removal giving = tt
       can_due (Some (line_is.Load va)) (Running micro count) here at so_far walks removal giving = tt
-      can_due (Some (line_is.Load va)) (Breaking count) here at so_far walks removal giving = tt
+      can_due (Some (line_is.Load va)) (Breaking count index) here at so_far walks removal giving = tt
       can_due (Some (line_is.Store va word)) Idle here at so_far walks removal giving = record { harts = can_go (line_is.Store va word) here; seeks = can_seek_host d w k hart below va (stores word) Start tt }
       can_due (Some (line_is.Store va word)) (Seeking walk) here at so_far walks removal giving = (record { harts = can_go (line_is.Store va word) here; seeks = can_seek_host d w k hart below va (stores word) walk walks }, so_far)
       can_due (Some (line_is.Store va word)) (Removing page) here at so_far walks removal giving = tt
       can_due (Some (line_is.Store va word)) Destroying here at so_far walks removal giving = tt
       can_due (Some (line_is.Store va word)) (Putting done) here at so_far walks removal giving = tt
       can_due (Some (line_is.Store va word)) (Running micro count) here at so_far walks removal giving = tt
-      can_due (Some (line_is.Store va word)) (Breaking count) here at so_far walks removal giving = tt
+      can_due (Some (line_is.Store va word)) (Breaking count index) here at so_far walks removal giving = tt
       can_due (Some (line_is.Map va page perms)) under here at so_far walks removal giving = map_only page perms under
           (can_map d w k hart below (can_go (line_is.Map va page perms) here) page perms (line_forms w.setup hart (answered_at w.answered hart) (line_is.Map va page perms) k.sizes.rules here))
       can_due (Some (line_is.Unmap va)) Idle here at so_far walks removal giving = can_unmap d w k hart below (can_go (line_is.Unmap va) here) removal giving
@@ -373,42 +373,42 @@ module _ (d : List ℕ → List ℕ) (w : WorldData) (k : Kept d w) where
       can_due (Some (line_is.Unmap va)) Destroying here at so_far walks removal giving = tt
       can_due (Some (line_is.Unmap va)) (Putting done) here at so_far walks removal giving = tt
       can_due (Some (line_is.Unmap va)) (Running micro count) here at so_far walks removal giving = tt
-      can_due (Some (line_is.Unmap va)) (Breaking count) here at so_far walks removal giving = tt
+      can_due (Some (line_is.Unmap va)) (Breaking count index) here at so_far walks removal giving = tt
       can_due (Some (line_is.Create e image pages)) Idle here at so_far walks removal giving = can_make false e image pages here
       can_due (Some (line_is.Create e image pages)) (Seeking walk) here at so_far walks removal giving = tt
       can_due (Some (line_is.Create e image pages)) (Removing page) here at so_far walks removal giving = tt
       can_due (Some (line_is.Create e image pages)) Destroying here at so_far walks removal giving = tt
       can_due (Some (line_is.Create e image pages)) (Putting done) here at so_far walks removal giving = can_put e image false 0 done (can_make false e image pages here) so_far.putting
       can_due (Some (line_is.Create e image pages)) (Running micro count) here at so_far walks removal giving = tt
-      can_due (Some (line_is.Create e image pages)) (Breaking count) here at so_far walks removal giving = tt
+      can_due (Some (line_is.Create e image pages)) (Breaking count index) here at so_far walks removal giving = tt
       can_due (Some (line_is.Shadow e image pages)) Idle here at so_far walks removal giving = can_make true e image pages here
       can_due (Some (line_is.Shadow e image pages)) (Seeking walk) here at so_far walks removal giving = tt
       can_due (Some (line_is.Shadow e image pages)) (Removing page) here at so_far walks removal giving = tt
       can_due (Some (line_is.Shadow e image pages)) Destroying here at so_far walks removal giving = tt
       can_due (Some (line_is.Shadow e image pages)) (Putting done) here at so_far walks removal giving = can_put e image true 0 done (can_make true e image pages here) so_far.putting
       can_due (Some (line_is.Shadow e image pages)) (Running micro count) here at so_far walks removal giving = tt
-      can_due (Some (line_is.Shadow e image pages)) (Breaking count) here at so_far walks removal giving = tt
+      can_due (Some (line_is.Shadow e image pages)) (Breaking count index) here at so_far walks removal giving = tt
       can_due (Some (line_is.Fork shadow e pages)) Idle here at so_far walks removal giving = can_fork shadow e pages here
       can_due (Some (line_is.Fork shadow e pages)) (Seeking walk) here at so_far walks removal giving = tt
       can_due (Some (line_is.Fork shadow e pages)) (Removing page) here at so_far walks removal giving = tt
       can_due (Some (line_is.Fork shadow e pages)) Destroying here at so_far walks removal giving = tt
       can_due (Some (line_is.Fork shadow e pages)) (Putting done) here at so_far walks removal giving = can_put_fork shadow e pages done here so_far
       can_due (Some (line_is.Fork shadow e pages)) (Running micro count) here at so_far walks removal giving = tt
-      can_due (Some (line_is.Fork shadow e pages)) (Breaking count) here at so_far walks removal giving = tt
+      can_due (Some (line_is.Fork shadow e pages)) (Breaking count index) here at so_far walks removal giving = tt
       can_due (Some (line_is.Run e budget)) Idle here at so_far walks removal giving = (can_go (line_is.Run e budget) here, number_there (line_is.Run e budget) e.0 here (λ is. ltb-true e.0 w.setup.enclaves is))
       can_due (Some (line_is.Run e budget)) (Seeking walk) here at so_far walks removal giving = tt
       can_due (Some (line_is.Run e budget)) (Removing page) here at so_far walks removal giving = tt
       can_due (Some (line_is.Run e budget)) Destroying here at so_far walks removal giving = tt
       can_due (Some (line_is.Run e budget)) (Putting done) here at so_far walks removal giving = tt
       can_due (Some (line_is.Run e budget)) (Running micro count) here at so_far walks removal giving = can_reach true e budget count here micro at (bound e.0) so_far walks removal giving
-      can_due (Some (line_is.Run e budget)) (Breaking count) here at so_far walks removal giving = can_restart e giving
+      can_due (Some (line_is.Run e budget)) (Breaking count index) here at so_far walks removal giving = can_restart e index giving
       can_due (Some (line_is.Resume e budget)) Idle here at so_far walks removal giving = (can_go (line_is.Resume e budget) here, number_there (line_is.Resume e budget) e.0 here (λ is. ltb-true e.0 w.setup.enclaves is))
       can_due (Some (line_is.Resume e budget)) (Seeking walk) here at so_far walks removal giving = tt
       can_due (Some (line_is.Resume e budget)) (Removing page) here at so_far walks removal giving = tt
       can_due (Some (line_is.Resume e budget)) Destroying here at so_far walks removal giving = tt
       can_due (Some (line_is.Resume e budget)) (Putting done) here at so_far walks removal giving = tt
       can_due (Some (line_is.Resume e budget)) (Running micro count) here at so_far walks removal giving = can_reach false e budget count here micro at (bound e.0) so_far walks removal giving
-      can_due (Some (line_is.Resume e budget)) (Breaking count) here at so_far walks removal giving = can_restart e giving
+      can_due (Some (line_is.Resume e budget)) (Breaking count index) here at so_far walks removal giving = can_restart e index giving
       can_due (Some (line_is.Destroy e)) Idle here at so_far walks removal giving =
           can_destroy d w k hart below e.0 (can_go (line_is.Destroy e) here) (number_there (line_is.Destroy e) e.0 here (λ is. ltb-true e.0 w.setup.enclaves is)) removal giving
       can_due (Some (line_is.Destroy e)) (Seeking walk) here at so_far walks removal giving = tt
@@ -416,7 +416,7 @@ module _ (d : List ℕ → List ℕ) (w : WorldData) (k : Kept d w) where
       can_due (Some (line_is.Destroy e)) Destroying here at so_far walks removal giving = can_end_destroy e here so_far giving
       can_due (Some (line_is.Destroy e)) (Putting done) here at so_far walks removal giving = tt
       can_due (Some (line_is.Destroy e)) (Running micro count) here at so_far walks removal giving = tt
-      can_due (Some (line_is.Destroy e)) (Breaking count) here at so_far walks removal giving = tt
+      can_due (Some (line_is.Destroy e)) (Breaking count index) here at so_far walks removal giving = tt
       can_due (Some (line_is.Send e word)) under here at so_far walks removal giving =
           idle_only (due_is.Send e word) under (can_go (line_is.Send e word) here, number_there (line_is.Send e word) e.0 here (λ is. ltb-true e.0 w.setup.enclaves is))
       can_due (Some (line_is.Take e)) under here at so_far walks removal giving =

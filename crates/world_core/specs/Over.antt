@@ -34,7 +34,7 @@ due_still w (due_is.Unmap va) (Removing page) = false
 due_still w (due_is.Create e image shadow) (Putting done) = false
 due_still w (due_is.Fork s e) (Putting done) = false
 due_still w (due_is.Run e budget first) (Running micro count) = false
-due_still w (due_is.Run e budget first) (Breaking count) = false
+due_still w (due_is.Run e budget first) (Breaking count index) = false
 due_still w (due_is.Destroy e) Destroying = false
 due_still w due under = true
 

@@ -51,7 +51,7 @@ CanForkSoFar w hart s e under = Unit {0}
 abbrev pub CanRunSoFar : WorldData → ℕ → ℕ → ℕ → Under → Type 0
 CanRunSoFar w hart e budget Idle = CanGo w hart × (e < length w.enclaves)
 CanRunSoFar w hart e budget (Running micro count) = CanReach w (record { hart = hart; e = e; budget = budget; count = count }) micro
-CanRunSoFar w hart e budget (Breaking count) = CanRestart w hart
+CanRunSoFar w hart e budget (Breaking count index) = CanRestart w hart
 CanRunSoFar w hart e budget under = Unit {0}
 
 abbrev pub CanDestroySoFar : WorldData → ℕ → ℕ → Under → Type 0
@@ -113,7 +113,7 @@ module _ (digest_of : List ℕ → List ℕ) where
   abbrev pub run_turn : WorldData → ℕ → List ℕ → ℕ → ℕ → Bool → Under → Turn
   run_turn w hart positions e budget first Idle = moves (begin_run w hart e first)
   run_turn w hart positions e budget first (Running micro count) = moves (runs digest_of w hart positions e budget micro count)
-  run_turn w hart positions e budget first (Breaking count) = waiting_turn (restarts w hart count) (lacked_by w hart)
+  run_turn w hart positions e budget first (Breaking count index) = waiting_turn (restarts w hart count) (lacked_by w hart)
   run_turn w hart positions e budget first under = rests turned.Done
 
 abbrev pub destroy_so_far : WorldData → ℕ → EncNo → Under → Turn

@@ -169,7 +169,7 @@ fn run<D: Digester, F: Fn(&[SlotUse]) -> usize>(
             };
             machine.go(run, micro);
         }
-        Under::Breaking { count } => return machine.breaking_turn(hart, count),
+        Under::Breaking { count, .. } => return machine.breaking_turn(hart, count),
         Under::Seeking { .. } => return Turned::Done,
         Under::Removing { .. } => return Turned::Done,
         Under::Destroying => return Turned::Done,

@@ -147,7 +147,11 @@ impl<D: Digester, F> Machine<D, F> {
         match done {
             Ok(()) => {
                 self.drop_from(run.hart, Space::of_number(run.e), Some(vpn_of_page(index)));
-                self.go_on(run.hart, Under::Breaking { count: run.count });
+                let under = Under::Breaking {
+                    count: run.count,
+                    index,
+                };
+                self.go_on(run.hart, under);
             }
             Err(Broken::Fault(place)) => self.leave(run, run.count, Why::Fault(place)),
             Err(Broken::Collision(collision)) => self.keep(collision),

@@ -111,8 +111,8 @@ module _ (setup : SetupParts) (bytes : ℕ → List ℕ) (rec : ℕ → Enclave)
   restarted_line (Some (Create e image pages)) (Putting done) k = k
   restarted_line (Some (Shadow e image pages)) (Putting done) k = k
   restarted_line (Some (Fork shadow e pages)) (Putting done) k = k
-  restarted_line (Some (Run e budget)) (Breaking count) k = k
-  restarted_line (Some (Resume e budget)) (Breaking count) k = k
+  restarted_line (Some (Run e budget)) (Breaking count index) k = k
+  restarted_line (Some (Resume e budget)) (Breaking count index) k = k
   restarted_line (Some (Destroy e)) Destroying k = k
   restarted_line line under k = elim k [ ]
 

@@ -6,9 +6,11 @@ use Rattle.std.specs.List.{All, AllByRecursion}
 use Rattle.std.proofs.lemmas.Bool.{false≢true}
 use Rattle.std.proofs.lemmas.List.Elements.{All-contains, All-contains_itself, All-map, All-set, All-weaker, recursion_from_All}
 use Rattle.std.proofs.lemmas.List.{get_or-map, length-map}
+use Rattle.std.proofs.lemmas.Option.{slice_get_within}
 use Rattle.pl_base.specs.HartSet.{space_of_number}
 use Rattle.pl_base.specs.Pages.{is_among}
 use Rattle.pl_base.specs.declared.access.Kind.{Kind}
+use Rattle.pl_base.specs.declared.access.Kind.TheVariants as kind
 use Rattle.pl_base.specs.declared.address.Vpn.{Vpn}
 use Rattle.pl_base.specs.declared.number.EncNo.{EncNo}
 use Rattle.rv_hart.specs.declared.walks.Micro.{Micro}
@@ -43,7 +45,7 @@ use Rattle.world_machine.specs.Answering.{goes_on}
 use Rattle.world_machine.specs.BytesAgree.{HasPut, HostBytesAgree, OnlyAttacksDiffer, PageAgrees}
 use Rattle.world_machine.specs.EnclavesAgree.{EnclaveStands, EnclavesAgree, IsOwnOrShared, IsOwn}
 use Rattle.world_machine.specs.FencesStand.{NumberFenceStands, RemovalStands, removals_by}
-use Rattle.world_machine.specs.LinesUnderWay.{IsAccessed, IsRunning, LineUnderWay, number_under_way}
+use Rattle.world_machine.specs.LinesUnderWay.{IsAccessed, IsRestarting, IsRunning, LineUnderWay, number_under_way}
 use Rattle.world_machine.specs.Making.{image_of}
 use Rattle.world_machine.specs.Pages.{flat_pages, numbers_of}
 use Rattle.world_machine.specs.PagesAgree.{PagesAgree, PagesAre}
@@ -57,12 +59,12 @@ use Rattle.world_machine.proofs.BreakFences.{breaking_gives, breaking_is, breaki
 use Rattle.world_machine.proofs.BrokenPages.{once_broke, pages_broke}
 use Rattle.world_machine.proofs.BrokenSpaces.{flat_pages-broke, leaves_set, mapping_other}
 use Rattle.world_machine.proofs.ForkedNumbers.{shadows_stand, under_way_childless}
-use Rattle.world_machine.proofs.Frames.{Frame, enclaves_frame, line_frame, records_frame}
+use Rattle.world_machine.proofs.Frames.{Frame, accessed_still, enclaves_frame, line_frame, records_frame}
 use Rattle.world_machine.proofs.HostBytes.{byte_of_page}
 use Rattle.world_machine.proofs.LineKinds.{goes_on_line}
 use Rattle.world_machine.proofs.LineMoves.{LineMoves}
 use Rattle.world_machine.proofs.LineTranslations.{isnt_waiting}
-use Rattle.world_machine.proofs.Lists.{ChangedAt, changed_set, everywhere, if_other, if_same, or_other, or_same}
+use Rattle.world_machine.proofs.Lists.{ChangedAt, changed_set, everywhere, get-set_same, if_other, if_same, or_other, or_same}
 use Rattle.world_machine.proofs.LiveEnclaves.{live_made}
 use Rattle.world_machine.proofs.NumberChanges.{number_changed}
 use Rattle.world_machine.proofs.NumberFreshness.{AllButOneSpace, broken_entries, broken_fresh}
@@ -153,7 +155,7 @@ module _ (digest_of : List ℕ → List ℕ) (room_stays : RoomStays) (w : World
     tlbs' = slice_set w.tlbs hart entries'
 
     abbrev u : Under
-    u = Breaking count
+    u = Breaking count index
 
     abbrev under' : List Under
     under' = slice_set w.under hart u
@@ -316,7 +318,7 @@ module _ (digest_of : List ℕ → List ℕ) (room_stays : RoomStays) (w : World
           was_held kind listed = still_agrees (page_number_of kind) (k.stands.attacks.made (page_number_of kind) e.0 (number_listed r.pages kind listed) (live_made n n_live))
 
       put_none : (page : ℕ) → HasPut (hart_line w hart) (under_at under' hart) page → ⊥
-      put_none page put = breaking_put first e budget count page (breaking_back (λ l v. HasPut l v page) put)
+      put_none page put = breaking_put first e budget count index page (breaking_back (λ l v. HasPut l v page) put)
         where
           breaking_back : (P : Option Line → Under → Type 0) → P (hart_line w hart) (under_at under' hart) → P (Some (run_line first e budget)) u
           breaking_back P holds = subst (P (Some (run_line first e budget))) moves.under_change.here (subst (λ l. P l (under_at under' hart)) here holds)
@@ -406,19 +408,31 @@ module _ (digest_of : List ℕ → List ℕ) (room_stays : RoomStays) (w : World
         tlbs = λ other differs. or_other w.tlbs hart other entries' [] differs;
         used = λ other inside differs. broken_fresh w.setup (enclave_at w.enclaves) (enclave_at enclaves') s s e.0 spaces w.fences hart vpn (λ live. live) space_other none_posted
             t.fences_stand.needs_others hart_has_fence other (subst (λ size. other < size) (sym t.fences_stand.size) inside) differs;
-        own_removals = breaking_line (λ l v. RemovalStands l v (removals_by s.removals hart)) (breaking_removes first e budget count (removals_by s.removals hart) no_removal);
-        own_giving = breaking_line (λ l v. NumberFenceStands l v (fence_of fences' hart)) (breaking_gives first e budget count (fence_of fences' hart) (breaks_fence w.fences hart e.0 vpn hart_has_fence));
+        own_removals = breaking_line (λ l v. RemovalStands l v (removals_by s.removals hart)) (breaking_removes first e budget count index (removals_by s.removals hart) no_removal);
+        own_giving = breaking_line (λ l v. NumberFenceStands l v (fence_of fences' hart)) (breaking_gives first e budget count index (fence_of fences' hart) (breaks_fence w.fences hart e.0 index hart_has_fence));
         own_entries = subst (All (IsFresh w.setup (enclave_at enclaves') s fences' hart)) (sym (or_same w.tlbs hart entries' [] hart_has_tlb))
             (broken_entries w.setup (enclave_at w.enclaves) (enclave_at enclaves') s s e.0 spaces w.fences hart vpn (λ live. live) space_other none_posted
             t.fences_stand.needs_others hart_has_fence (tlb_at w.tlbs hart) (t.fresh.entries hart));
         own_walk = breaking_line (λ l v. WalkingStands ctl (IsFresh w.setup (enclave_at enclaves') s fences' hart) (walking w.setup.tables (enclave_at enclaves') l v))
-            (breaking_walks ctl (IsFresh w.setup (enclave_at enclaves') s fences' hart) w.setup.tables (enclave_at enclaves') first e budget count);
+            (breaking_walks ctl (IsFresh w.setup (enclave_at enclaves') s fences' hart) w.setup.tables (enclave_at enclaves') first e budget count index);
       })
 
       -- ---- the row
 
-      runs_on : IsRunning w.setup bytes' r_now n hart budget count (Fetching Start)
-      runs_on = record { state = running_now.state; hart_is = running_now.hart_is; within = running_now.within; retired = running_now.retired; instruction = tt }
+      stores_still : IsAccessed (image_of w.setup r.image).pages bytes' r_now va kind.Store
+      stores_still = subst (λ (i : Image). IsAccessed i.pages bytes' r_now va kind.Store)
+          (sym (alone_so digest_of room_stays w k none hart below first e budget count micro here under there).image_is)
+          (accessed_still x.image.pages (page_bytes w.ctl.mirror) bytes' r r_now refl flat_stays va kind.Store (subst (IsAccessed x.image.pages (page_bytes w.ctl.mirror) r va) at.store accessed))
+
+      starts_anew : IsRestarting w.setup bytes' r_now n hart budget count index
+      starts_anew = record {
+        running = record { state = running_now.state; hart_is = running_now.hart_is; within = running_now.within; retired = running_now.retired; instruction = tt };
+        va = va;
+        stores = stores_still;
+        place = sym at.place;
+        page = now;
+        own = get-set_same r.pages index (Own now) (slice_get_within r.pages index _ at.shared);
+      }
 
       facts : RowFacts digest_of w hart ctl w.owners enclaves' tlbs' fences' under' w.answered w.history s u (answered_at w.answered hart)
       facts = record {
@@ -435,11 +449,11 @@ module _ (digest_of : List ℕ → List ℕ) (room_stays : RoomStays) (w : World
             k.stands.enclaves (λ f used. subst (λ size. f < size) k.sizes.numbers (used_there w.enclaves f used)) other (hart_line w other) (under_at w.under other)
             (λ f is. not_theirs other f differs is) (k.stands.lines other);
         own_line = subst (λ l. LineUnderWay w.setup bytes' (enclave_at enclaves') s.number hart l u) (sym here)
-            (breaking_is w.setup bytes' (enclave_at enclaves') s.number hart budget count e first
-            (subst (λ y. IsRunning w.setup bytes' y n hart budget count (Fetching Start)) (sym change.here) runs_on));
-        own_apart = λ other f differs own_is theirs. not_theirs other f differs theirs (some_same f e.0 (sym own_is ∙ ap (λ l. number_under_way l u) here ∙ breaking_number first e budget count));
+            (breaking_is w.setup bytes' (enclave_at enclaves') s.number hart budget count index e first
+            (subst (λ y. IsRestarting w.setup bytes' y n hart budget count index) (sym change.here) starts_anew));
+        own_apart = λ other f differs own_is theirs. not_theirs other f differs theirs (some_same f e.0 (sym own_is ∙ ap (λ l. number_under_way l u) here ∙ breaking_number first e budget count index));
         translations = translations;
       }
 
-      pub broke_kept : Kept digest_of (goes_on (record w { ctl = ctl; enclaves = enclaves'; fences = fences'; tlbs = tlbs' }) hart (Breaking count))
+      pub broke_kept : Kept digest_of (goes_on (record w { ctl = ctl; enclaves = enclaves'; fences = fences'; tlbs = tlbs' }) hart (Breaking count index))
       broke_kept = row_kept digest_of w hart ctl w.owners enclaves' tlbs' fences' under' w.answered w.history s u (answered_at w.answered hart) k none facts

@@ -1,5 +1,5 @@
--- In a kept world each dying number has the fence of its space, and each fence is of an open removal, of a number that is given back, or of a page
--- that was broken.
+-- In a kept world each dying number has the fence of its space, each page that was broken its own, and each fence is one of these, or of an open
+-- removal.
 use Rattle.std.proofs.Common.{◌≡◌, ◌⊎◌, ℕ, ◌==◌, Bool, true, false, if◌then◌else◌, List, Option, Some, None, option_map, refl, sym, ap, ◌∙◌, subst, inl, inr}
 use Rattle.pl_base.specs.declared.number.EncNo.{EncNo}
 use Rattle.mon_enclave.specs.declared.enclave.Enclave.{Enclave}
@@ -9,15 +9,15 @@ use Rattle.mon_fence.specs.Fences.{fence_of}
 use Rattle.mon_tables.specs.Space.{Mapping}
 use Rattle.pl_history.specs.declared.line.AttackLine.{AttackLine}
 use Rattle.pl_history.specs.declared.line.Line.{Line}
-use Rattle.pl_history.specs.declared.line.Line.TheVariants.{Destroy}
+use Rattle.pl_history.specs.declared.line.Line.TheVariants.{Destroy, Resume, Run}
 use Rattle.pl_history.specs.declared.setup.SetupParts.{SetupParts}
 use Rattle.pl_history.specs.Legal.{line_at, of_attacker, of_hart}
 use Rattle.pl_history.specs.Monitor.{Monitor, Number, Progress}
 use Rattle.world_machine.specs.declared.under.Under.{Under}
 use Rattle.world_machine.specs.declared.under.Under.TheVariants.{Idle, Seeking, Removing, Destroying, Putting, Running, Breaking}
-use Rattle.world_machine.specs.DyingNumbers.{BrokeFor, Dies, DyingNumbersFenced, GivesBack, HasFence}
-use Rattle.world_machine.specs.FencesStand.{FenceStands, NumberFenceStands, IsOfNumber, IsOfRemoval, removals_by}
-use Rattle.world_machine.specs.LinesUnderWay.{LineUnderWay}
+use Rattle.world_machine.specs.DyingNumbers.{BrokeFor, Dies, DyingNumbersFenced, GivesBack, HasBreakFence, HasFence}
+use Rattle.world_machine.specs.FencesStand.{FenceStands, NumberFenceStands, IsBreaking, IsOfNumber, IsOfRemoval, removals_by}
+use Rattle.world_machine.specs.LinesUnderWay.{LineUnderWay, number_under_way}
 use Rattle.world_machine.specs.RecordsAgree.{is_begun, progress_of}
 use Rattle.world_machine.specs.Standing.{Kept, state_of, written_page}
 use Rattle.world_machine.specs.Worlds.{WorldData, hart_line, under_at}
@@ -40,12 +40,31 @@ gives_back setup bytes rec number hart e (Seeking walk) stands begun = absurd st
 gives_back setup bytes rec number hart e (Removing page) stands begun = absurd stands
 gives_back setup bytes rec number hart e (Putting done) stands begun = absurd stands
 gives_back setup bytes rec number hart e (Running micro count) stands begun = absurd stands
-gives_back setup bytes rec number hart e (Breaking count) stands begun = absurd stands
+gives_back setup bytes rec number hart e (Breaking count index) stands begun = absurd stands
 gives_back setup bytes rec number hart e Destroying stands begun = refl
+
+-- the line of a break is of the number whose page it broke
+record IsOfBreak (line : Option Line) (under : Under) (fence : Option Fence) (index : ℕ) : Type 0 where
+  pub e : ℕ
+  pub under_way : number_under_way line under ≡ Some e
+  pub fence_is : IsBreaking fence e index
+
+of_break : (setup : SetupParts) (bytes : ℕ → List ℕ) (rec : ℕ → Enclave) (number : ℕ → Number) (hart : ℕ) (line : Option Line) (count index : ℕ) (fence : Option Fence)
+    → LineUnderWay setup bytes rec number hart line (Breaking count index) → NumberFenceStands line (Breaking count index) fence → IsOfBreak line (Breaking count index) fence index
+of_break setup bytes rec number hart (Some (Run e budget)) count index fence stands giving = record { e = e.0; under_way = refl; fence_is = giving }
+of_break setup bytes rec number hart (Some (Resume e budget)) count index fence stands giving = record { e = e.0; under_way = refl; fence_is = giving }
+of_break setup bytes rec number hart line count index fence stands giving = absurd stands
 
 module _ (digest_of : List ℕ → List ℕ) (w : WorldData) (k : Kept digest_of w) where
   abbrev s : Monitor
   s = state_of w
+
+  has_break_fence : (hart count index : ℕ) → under_at w.under hart ≡ Breaking count index → HasBreakFence w hart count index
+  has_break_fence hart count index is =
+      let so = of_break w.setup (written_page w) (enclave_at w.enclaves) s.number hart (hart_line w hart) count index (fence_of w.fences hart)
+          (subst (LineUnderWay w.setup (written_page w) (enclave_at w.enclaves) s.number hart (hart_line w hart)) is (k.stands.lines hart))
+          (subst (λ u. NumberFenceStands (hart_line w hart) u (fence_of w.fences hart)) is (k.stands.translations.giving hart)) in
+      record { e = so.e; under_way = ap (number_under_way (hart_line w hart)) is ∙ so.under_way; fence = so.fence_is }
 
   module _ (e : ℕ) (g : IsGivenBackBy w.setup s e) where
     abbrev gives : Line
@@ -89,9 +108,9 @@ module _ (digest_of : List ℕ → List ℕ) (w : WorldData) (k : Kept digest_of
           | inr broke ↦ inr (record {
             under_way = fence_under_way (hart_line w hart) (under_at w.under hart) fence e of_number gives;
             count = broke.1.count;
+            index = broke.1.index;
             breaking = broke.1.breaking;
             of_number = of_number;
-            vpn = broke.1.vpn;
             of_page = broke.1.of_page;
           })
         ]
@@ -109,5 +128,6 @@ module _ (digest_of : List ℕ → List ℕ) (w : WorldData) (k : Kept digest_of
   pub dying_fenced : DyingNumbersFenced w
   dying_fenced = record {
     fenced = λ e dies. has_fence e (legal_given w.setup w.history.bytes w.history.entries k.legal e ((k.stands.records e).state ∙ dies));
+    broken = has_break_fence;
     others = of_one;
   }

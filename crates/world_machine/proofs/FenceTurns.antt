@@ -33,9 +33,9 @@ module _ (digest_of : List ℕ → List ℕ) (w : WorldData) (hart : ℕ) (posit
   giving_waits : (line : Option Line) (under : Under) (o : Option Fence) (fence : Fence) (e : ℕ) → NumberFenceStands line under o → o ≡ Some fence → IsOfNumber fence e
       → WaitsForFence line under
   giving_waits (Some (Destroy given)) Destroying o fence e stands is number = record { now = Destroy given; here = refl; ended = ends_destroy w hart given; turn = refl }
-  giving_waits (Some (Run given budget)) (Breaking count) o fence e stands is number =
+  giving_waits (Some (Run given budget)) (Breaking count index) o fence e stands is number =
       record { now = Run given budget; here = refl; ended = restarts w hart count; turn = refl }
-  giving_waits (Some (Resume given budget)) (Breaking count) o fence e stands is number =
+  giving_waits (Some (Resume given budget)) (Breaking count index) o fence e stands is number =
       record { now = Resume given budget; here = refl; ended = restarts w hart count; turn = refl }
   giving_waits line under o fence e stands is number = absurd (number_not_host fence e number (subst IsOfHost is stands))
 

@@ -1,5 +1,5 @@
 -- An event that changes one enclave number leaves what holds of every other one, and of the lines of other harts.
-use Rattle.std.proofs.Common.{◌≡◌, ◌≢◌, ℕ, ◌+◌, ◌-◌, ◌<◌, ltb, Bool, true, false, List, [], ◌∷◌, length, get_or, Option, Some, refl, sym, ap, ◌∙◌, subst, arith, inl, inr, unwrap_or}
+use Rattle.std.proofs.Common.{◌≡◌, ◌≢◌, ℕ, ◌+◌, ◌-◌, ◌<◌, ltb, Bool, true, false, List, [], ◌∷◌, length, get_or, slice_get, Option, Some, refl, sym, ap, ◌∙◌, subst, arith, inl, inr, unwrap_or}
 use Rattle.std.proofs.lemmas.Bool.Decides.{nat_tests}
 use Rattle.std.specs.List.{All, AllByRecursion}
 use Rattle.std.proofs.lemmas.List.{length-map}
@@ -32,7 +32,7 @@ use Rattle.pl_history.specs.Monitor.{Number}
 use Rattle.world_machine.specs.declared.under.Under.{Under}
 use Rattle.world_machine.specs.declared.under.Under.TheVariants.{Idle, Seeking, Removing, Destroying, Putting, Running, Breaking}
 use Rattle.world_machine.specs.EnclavesAgree.{EnclaveStands, EnclavesAgree, IsOwnOrShared, IsOwn, StateStands}
-use Rattle.world_machine.specs.LinesUnderWay.{InstructionStands, IsAccessed, IsBuilding, IsForking, IsPutting, IsRunning, LineUnderWay, MakesAccess, access_of, first_table_step, number_under_way}
+use Rattle.world_machine.specs.LinesUnderWay.{InstructionStands, IsAccessed, IsBuilding, IsForking, IsPutting, IsRestarting, IsRunning, LineUnderWay, MakesAccess, access_of, first_table_step, number_under_way}
 use Rattle.world_machine.specs.Making.{image_of}
 use Rattle.world_machine.specs.Pages.{flat_pages, numbers_of, reached}
 use Rattle.world_machine.specs.RecordsAgree.{RecordAgrees, RecordsAgree}
@@ -48,8 +48,8 @@ flat_pages-same bytes bytes' (page ∷ image) [] same = refl
 flat_pages-same bytes bytes' (page ∷ image) (number ∷ numbers) same =
     λ i. record { perms = page.perms; bytes = same.0 i } ∷ flat_pages-same bytes bytes' image numbers same.1 i
 
--- what holds of the next instruction holds of it in a record with the same context and pages, which have the same bytes
-module _ (image : List ImagePage) (before after : ℕ → List ℕ) (r r' : Enclave) (context : r'.context ≡ r.context) (kinds : r'.pages ≡ r.pages)
+-- what holds of the next instruction holds of it in a record with the same context, where the pages have the same bytes
+module _ (image : List ImagePage) (before after : ℕ → List ℕ) (r r' : Enclave) (context : r'.context ≡ r.context)
     (bytes : flat_pages after image (numbers_of r'.pages) ≡ flat_pages before image (numbers_of r.pages)) where
   makes_still : (word : ℕ) (access : Kind × ℕ) → MakesAccess image before r word access → MakesAccess image after r' word access
   makes_still word access k = record {
@@ -57,15 +57,15 @@ module _ (image : List ImagePage) (before after : ℕ → List ℕ) (r r' : Encl
     access_is = ap (λ (c : Context). access_of (act_of c word)) context ∙ k.access_is;
   }
 
-  accessed_still : (va : ℕ) (access : Kind) → IsAccessed image before r va access → IsAccessed image after r' va access
+  pub accessed_still : (va : ℕ) (access : Kind) → IsAccessed image before r va access → IsAccessed image after r' va access
   accessed_still va kind.Fetch k = k ∙ sym (ap (λ (c : Context). c.pc) context)
   accessed_still va kind.Load k = (k.0, makes_still k.0 (kind.Load, va) k.1)
   accessed_still va kind.Store k = (k.0, makes_still k.0 (kind.Store, va) k.1)
 
-  pub instruction_stays : (micro : Micro) → InstructionStands image before r micro → InstructionStands image after r' micro
-  instruction_stays (Fetching walk) k = tt
-  instruction_stays (Reaching word walk) k = (k.0, makes_still word k.0 k.1)
-  instruction_stays (Faulting va access) k = (accessed_still va access k.0, ap (λ pages. reached access image pages va) kinds ∙ k.1)
+  pub instruction_stays : r'.pages ≡ r.pages → (micro : Micro) → InstructionStands image before r micro → InstructionStands image after r' micro
+  instruction_stays kinds (Fetching walk) k = tt
+  instruction_stays kinds (Reaching word walk) k = (k.0, makes_still word k.0 k.1)
+  instruction_stays kinds (Faulting va access) k = (accessed_still va access k.0, ap (λ pages. reached access image pages va) kinds ∙ k.1)
 
 -- an image's state stands over other bytes that are the same in its pages
 pub state_over : (setup : SetupParts) (bytes bytes' : ℕ → List ℕ) (image : Image) (r : Enclave) (n : Number) → flat_pages bytes' image.pages (numbers_of r.pages) ≡ flat_pages bytes image.pages (numbers_of r.pages)
@@ -178,8 +178,8 @@ module _ (setup : SetupParts) (e : ℕ) (rec rec' : ℕ → Enclave) (number num
         hart_is = k.hart_is;
         within = k.within;
         retired = k.retired;
-        instruction = instruction_stays (image_of setup (rec f).image).pages bytes bytes' (rec f) (rec f) refl refl
-            (same_pages f (image_of setup (rec f).image).pages (rec f).pages other own) micro k.instruction;
+        instruction = instruction_stays (image_of setup (rec f).image).pages bytes bytes' (rec f) (rec f) refl
+            (same_pages f (image_of setup (rec f).image).pages (rec f).pages other own) refl micro k.instruction;
       }))
 
   putting_other : (f image : ℕ) (shadow : Bool) (first done : ℕ) → f ≢ e → f < setup.enclaves → length (rec f).pages ≡ length (image_of setup image).pages
@@ -218,6 +218,19 @@ module _ (setup : SetupParts) (e : ℕ) (rec rec' : ℕ → Enclave) (number num
     running_there f hart budget count micro k other =
         running_other f hart budget count micro other (enclaves f (ap is_free k.state)).held.owned k
 
+    restarting_there : (f hart budget count index : ℕ) → IsRestarting setup bytes (rec f) (number f) hart budget count index → f ≢ e
+        → IsRestarting setup bytes' (rec' f) (number' f) hart budget count index
+    restarting_there f hart budget count index k other = record {
+      running = running_there f hart budget count (Fetching Start) k.running other;
+      va = k.va;
+      stores = subst (λ r. IsAccessed (image_of setup r.image).pages bytes' r k.va kind.Store) (sym (frame.records f other))
+          (accessed_still (image_of setup (rec f).image).pages bytes bytes' (rec f) (rec f) refl
+          (same_pages f (image_of setup (rec f).image).pages (rec f).pages other (enclaves f (ap is_free k.running.state)).held.owned) k.va kind.Store k.stores);
+      place = k.place;
+      page = k.page;
+      own = ap (λ (r : Enclave). slice_get r.pages index) (frame.records f other) ∙ k.own;
+    }
+
     pub line_frame : (hart : ℕ) (line : Option Line) (under : Under) → ((f : ℕ) → number_under_way line under ≡ Some f → f ≢ e)
         → LineUnderWay setup bytes rec number hart line under → LineUnderWay setup bytes' rec' number' hart line under
     line_frame hart line Idle apart k = tt
@@ -228,8 +241,8 @@ module _ (setup : SetupParts) (e : ℕ) (rec rec' : ℕ → Enclave) (number num
     line_frame hart (Some (Shadow f image pages)) (Putting done) apart k = building_there f.0 image true pages done k (apart f.0 refl)
     line_frame hart (Some (Fork shadow f pages)) (Putting done) apart k = forking_there f.0 done k (apart f.0 refl)
     line_frame hart (Some (Run f budget)) (Running micro count) apart k = running_there f.0 hart budget count micro k (apart f.0 refl)
-    line_frame hart (Some (Run f budget)) (Breaking count) apart k = running_there f.0 hart budget count (Fetching Start) k (apart f.0 refl)
+    line_frame hart (Some (Run f budget)) (Breaking count index) apart k = restarting_there f.0 hart budget count index k (apart f.0 refl)
     line_frame hart (Some (Resume f budget)) (Running micro count) apart k = running_there f.0 hart budget count micro k (apart f.0 refl)
-    line_frame hart (Some (Resume f budget)) (Breaking count) apart k = running_there f.0 hart budget count (Fetching Start) k (apart f.0 refl)
+    line_frame hart (Some (Resume f budget)) (Breaking count index) apart k = restarting_there f.0 hart budget count index k (apart f.0 refl)
     line_frame hart (Some (Destroy f)) Destroying apart k = ap (λ (r : Enclave). r.state) (frame.records f.0 (apart f.0 refl)) ∙ k
     line_frame hart line under apart k = elim k [ ]

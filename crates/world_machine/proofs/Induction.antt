@@ -92,10 +92,10 @@ module _ (digest_of : List ℕ → List ℕ) (law : (m : List ℕ) → length (d
     giving_kept e here so_far (Some harts) lacking = tt
 
     -- an instruction starts anew after a break, or its hart waits
-    breaking_kept : (first : Bool) (e : EncNo) (budget count : ℕ) → hart_line w hart ≡ Some (run_line first e budget) → under_at w.under hart ≡ Breaking count
+    breaking_kept : (first : Bool) (e : EncNo) (budget count index : ℕ) → hart_line w hart ≡ Some (run_line first e budget) → under_at w.under hart ≡ Breaking count index
         → (o : Option HartSet) → lacked_by w hart ≡ o → KeptTurn digest_of (waiting_turn (restarts w hart count) o)
-    breaking_kept first e budget count here so_far None nobody = restart_kept digest_of room_stays w k none hart below first e budget count here so_far nobody
-    breaking_kept first e budget count here so_far (Some harts) lacking = tt
+    breaking_kept first e budget count index here so_far None nobody = restart_kept digest_of room_stays w k none hart below first e budget count index here so_far nobody
+    breaking_kept first e budget count index here so_far (Some harts) lacking = tt
 
     -- one clause a row
     due_kept : (line : Line) (under : Under) → hart_line w hart ≡ Some line → under_at w.under hart ≡ under → KeptTurn digest_of (due digest_of w hart positions line under)
@@ -123,12 +123,12 @@ module _ (digest_of : List ℕ → List ℕ) (law : (m : List ℕ) → length (d
     due_kept (Run e budget) (Running micro count) here so_far =
         runs_kept digest_of law tells room_stays w k none hart below true e budget micro count here so_far
         (number_there (Run e budget) e.0 here (λ is. grind (arith, nat_tests))) positions
-    due_kept (Run e budget) (Breaking count) here so_far = breaking_kept true e budget count here so_far (lacked_by w hart) refl
+    due_kept (Run e budget) (Breaking count index) here so_far = breaking_kept true e budget count index here so_far (lacked_by w hart) refl
     due_kept (Resume e budget) Idle here so_far = begin_run_kept digest_of room_stays w k none hart below so_far false e budget here
     due_kept (Resume e budget) (Running micro count) here so_far =
         runs_kept digest_of law tells room_stays w k none hart below false e budget micro count here so_far
         (number_there (Resume e budget) e.0 here (λ is. grind (arith, nat_tests))) positions
-    due_kept (Resume e budget) (Breaking count) here so_far = breaking_kept false e budget count here so_far (lacked_by w hart) refl
+    due_kept (Resume e budget) (Breaking count index) here so_far = breaking_kept false e budget count index here so_far (lacked_by w hart) refl
     due_kept (Send e word) Idle here so_far = send_kept digest_of room_stays w k none hart below so_far e (number_there (Send e word) e.0 here (λ is. grind (arith, nat_tests))) word here
     due_kept (Take e) Idle here so_far = take_kept digest_of room_stays w k none hart below so_far e (number_there (Take e) e.0 here (λ is. grind (arith, nat_tests))) here
     due_kept (After actor count) Idle here so_far =

@@ -1,7 +1,6 @@
 -- A fence of a number's space is posted by the line that gives the number back, or that broke a page of it; a hart with a number under way has
 -- acknowledged every fence of it.
 use Rattle.std.proofs.Common.{◌≡◌, ◌≢◌, ◌⊎◌, ℕ, ◌+◌, ◌<◌, List, Option, Some, None, slice_set, sym, ap, ◌∙◌, subst, arith, refl, inl, inr}
-use Rattle.pl_base.specs.declared.address.Vpn.{Vpn}
 use Rattle.pl_base.specs.declared.number.EncNo.{EncNo}
 use Rattle.pl_base.specs.declared.number.Space.{Space}
 use Rattle.pl_base.specs.declared.state.State.TheVariants as state_is
@@ -10,6 +9,7 @@ use Rattle.mon_fence.specs.declared.fences.Fence.{Fence}
 use Rattle.mon_fence.specs.Fences.{fence_of, without_need}
 use Rattle.mon_fence.proofs.Needs.{fence_of-set_other, fence_of-set_same}
 use Rattle.mon_host.specs.Leaves.{host_space}
+use Rattle.mon_tables.specs.Space.{vpn_of_page}
 use Rattle.pl_history.specs.declared.line.Line.{Line}
 use Rattle.pl_history.specs.declared.line.Line.TheVariants.{Destroy, Resume, Run}
 use Rattle.pl_history.specs.declared.setup.SetupParts.{SetupParts}
@@ -36,14 +36,13 @@ one_number fence d e of_one of_other = (let h : d + 1 ≡ e + 1 = ap (λ (space 
 -- ---- the fence of a line
 
 -- a fence that needs one hart less is of the same space and page
-acked_breaks : (fence : Fence) (hart e : ℕ) → IsBreaking (Some fence) e → IsBreaking (Some (without_need hart fence)) e
-acked_breaks fence hart e k =
+acked_breaks : (fence : Fence) (hart e index : ℕ) → IsBreaking (Some fence) e index → IsBreaking (Some (without_need hart fence)) e index
+acked_breaks fence hart e index k =
     let same : fence ≡ k.posted = same_fence fence k.posted k.is in
     record {
       posted = without_need hart fence;
       is = refl;
       of_number = ap (λ (x : Fence). x.space) same ∙ k.of_number;
-      vpn = k.vpn;
       of_page = ap (λ (x : Fence). x.vpn) same ∙ k.of_page;
     }
 
@@ -56,8 +55,8 @@ acked_gives (Some (Destroy e)) Destroying fence hart k =
       of_number = ap (λ (x : Fence). x.space) same ∙ k.of_number;
       whole = ap (λ (x : Fence). x.vpn) same ∙ k.whole;
     }
-acked_gives (Some (Run e budget)) (Breaking count) fence hart k = acked_breaks fence hart e.0 k
-acked_gives (Some (Resume e budget)) (Breaking count) fence hart k = acked_breaks fence hart e.0 k
+acked_gives (Some (Run e budget)) (Breaking count index) fence hart k = acked_breaks fence hart e.0 index k
+acked_gives (Some (Resume e budget)) (Breaking count index) fence hart k = acked_breaks fence hart e.0 index k
 acked_gives line under fence hart k = k
 
 -- ---- the line with the fence of a number
@@ -69,13 +68,13 @@ IsGivenBack e line under fence = (line ≡ Some (Destroy (record { 0 = e }))) ×
 -- a line broke a page of the number under way
 pub record BrokePage (under : Under) (fence : Fence) : Type 0 where
   pub count : ℕ
-  pub breaking : under ≡ Breaking count
-  pub vpn : Vpn
-  pub of_page : fence.vpn ≡ Some vpn
+  pub index : ℕ
+  pub breaking : under ≡ Breaking count index
+  pub of_page : fence.vpn ≡ Some (vpn_of_page index)
 
-broke_page : (fence : Fence) (e count : ℕ) → IsBreaking (Some fence) e → BrokePage (Breaking count) fence
-broke_page fence e count k =
-    record { count = count; breaking = refl; vpn = k.vpn; of_page = ap (λ (x : Fence). x.vpn) (same_fence fence k.posted k.is) ∙ k.of_page }
+broke_page : (fence : Fence) (e count index : ℕ) → IsBreaking (Some fence) e index → BrokePage (Breaking count index) fence
+broke_page fence e count index k =
+    record { count = count; index = index; breaking = refl; of_page = ap (λ (x : Fence). x.vpn) (same_fence fence k.posted k.is) ∙ k.of_page }
 
 -- it has that number under way
 of_line : (fence posted : Fence) (d : EncNo) (e : ℕ) → Some fence ≡ Some posted → IsOfNumber posted d.0 → IsOfNumber fence e → d.0 ≡ e
@@ -83,8 +82,8 @@ of_line fence posted d e is of_one of_number = one_number fence d.0 e (ap (λ (x
 
 pub fence_under_way : (line : Option Line) (under : Under) (fence : Fence) (e : ℕ) → IsOfNumber fence e → NumberFenceStands line under (Some fence) → number_under_way line under ≡ Some e
 fence_under_way (Some (Destroy d)) Destroying fence e of_number k = ap Some (of_line fence k.posted d e k.is k.of_number of_number)
-fence_under_way (Some (Run d budget)) (Breaking count) fence e of_number k = ap Some (of_line fence k.posted d e k.is k.of_number of_number)
-fence_under_way (Some (Resume d budget)) (Breaking count) fence e of_number k = ap Some (of_line fence k.posted d e k.is k.of_number of_number)
+fence_under_way (Some (Run d budget)) (Breaking count index) fence e of_number k = ap Some (of_line fence k.posted d e k.is k.of_number of_number)
+fence_under_way (Some (Resume d budget)) (Breaking count index) fence e of_number k = ap Some (of_line fence k.posted d e k.is k.of_number of_number)
 fence_under_way line under fence e of_number of_host = absurd (number_not_host fence e of_number of_host)
 
 module _ (setup : SetupParts) (bytes : ℕ → List ℕ) (rec : ℕ → Enclave) (number : ℕ → Number) where
@@ -101,10 +100,10 @@ module _ (setup : SetupParts) (bytes : ℕ → List ℕ) (rec : ℕ → Enclave)
         (ap (λ n. Some (Destroy (record { 0 = n }))) same, refl, ap (λ (x : Fence). x.vpn) (same_fence fence k.posted k.is) ∙ k.whole),
         subst (λ n. (rec n).state ≡ state_is.Dying) same dying,
       )
-  number_posts hart e (Some (Run d budget)) (Breaking count) fence of_number k running =
-      inr (subst (λ n. (rec n).state ≡ state_is.On) (of_line fence k.posted d e k.is k.of_number of_number) running.state, broke_page fence d.0 count k)
-  number_posts hart e (Some (Resume d budget)) (Breaking count) fence of_number k running =
-      inr (subst (λ n. (rec n).state ≡ state_is.On) (of_line fence k.posted d e k.is k.of_number of_number) running.state, broke_page fence d.0 count k)
+  number_posts hart e (Some (Run d budget)) (Breaking count index) fence of_number k running =
+      inr (subst (λ n. (rec n).state ≡ state_is.On) (of_line fence k.posted d e k.is k.of_number of_number) running.running.state, broke_page fence d.0 count index k)
+  number_posts hart e (Some (Resume d budget)) (Breaking count index) fence of_number k running =
+      inr (subst (λ n. (rec n).state ≡ state_is.On) (of_line fence k.posted d e k.is k.of_number of_number) running.running.state, broke_page fence d.0 count index k)
   number_posts hart e line under fence of_number of_host k = absurd (number_not_host fence e of_number of_host)
 
   -- so a number of which a fence is owed is dying, or on

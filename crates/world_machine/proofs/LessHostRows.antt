@@ -71,7 +71,7 @@ restarted_left setup space (Some line) (Removing page) = omega arith
 restarted_left setup space (Some line) Destroying = omega arith
 restarted_left setup space (Some line) (Putting done) = omega arith
 restarted_left setup space (Some line) (Running micro count) = omega arith
-restarted_left setup space (Some line) (Breaking count) = omega arith
+restarted_left setup space (Some line) (Breaking count index) = omega arith
 
 module _ (digest_of : List ℕ → List ℕ) (w : WorldData) (k : Kept digest_of w) (none : w.collision ≡ None) (hart : ℕ) (below : hart < w.setup.harts) where
   -- ---- `load` and `store`

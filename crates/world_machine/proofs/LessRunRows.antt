@@ -50,9 +50,9 @@ run_cost : (setup : SetupParts) (first : Bool) (e : EncNo) (budget count : ℕ) 
 run_cost setup true e budget count micro = refl
 run_cost setup false e budget count micro = refl
 
-break_left : (setup : SetupParts) (first : Bool) (e : EncNo) (budget count : ℕ) → line_left setup (Some (run_line first e budget)) (Breaking count) ≡ 1 + 8 * (budget - count)
-break_left setup true e budget count = refl
-break_left setup false e budget count = refl
+break_left : (setup : SetupParts) (first : Bool) (e : EncNo) (budget count index : ℕ) → line_left setup (Some (run_line first e budget)) (Breaking count index) ≡ 1 + 8 * (budget - count)
+break_left setup true e budget count index = refl
+break_left setup false e budget count index = refl
 
 run_walks : (ctl : CtlData) (Fresh : TlbEntry → Type 0) (tables : ℕ) (record_of : ℕ → Enclave) (first : Bool) (e : EncNo) (budget count : ℕ) (micro : Micro)
     → WalkingStands ctl Fresh (walking tables record_of (Some (run_line first e budget)) (Running micro count))
@@ -65,11 +65,11 @@ module _ (digest_of : List ℕ → List ℕ) (w : WorldData) (k : Kept digest_of
   Fresh = IsFresh w.setup (enclave_at w.enclaves) (state_of w) w.fences hart
 
   -- nobody is lacking: the instruction starts anew, and the fence is left
-  pub restart_less : (first : Bool) (e : EncNo) (budget count : ℕ) → hart_line w hart ≡ Some (run_line first e budget) → under_at w.under hart ≡ Breaking count
+  pub restart_less : (first : Bool) (e : EncNo) (budget count index : ℕ) → hart_line w hart ≡ Some (run_line first e budget) → under_at w.under hart ≡ Breaking count index
       → remaining (restarts w hart count) < remaining w
-  restart_less first e budget count here so_far =
-      goes_by digest_of w k none hart below (run_line first e budget) (Breaking count) here so_far _ (Running (Fetching Start) count) refl none refl refl
-      (omega (arith, left_less w.setup.harts w.fences hart, run_cost w.setup first e budget count (Fetching Start), break_left w.setup first e budget count))
+  restart_less first e budget count index here so_far =
+      goes_by digest_of w k none hart below (run_line first e budget) (Breaking count index) here so_far _ (Running (Fetching Start) count) refl none refl refl
+      (omega (arith, left_less w.setup.harts w.fences hart, run_cost w.setup first e budget count (Fetching Start), break_left w.setup first e budget count index))
 
   -- ---- a run under way
 
@@ -153,7 +153,7 @@ module _ (digest_of : List ℕ → List ℕ) (w : WorldData) (k : Kept digest_of
           } in
           remaining (decided left (λ done. breaks_done left run index) (faults run r left) o) < remaining w
       broken_less ctl (Value done) never =
-          goes_by digest_of w k none hart below (run_line first e budget) (Running micro count) here so_far _ (Breaking count) refl none refl refl
+          goes_by digest_of w k none hart below (run_line first e budget) (Running micro count) here so_far _ (Breaking count index) refl none refl refl
           (let within : count < budget = running.within in
           let more : needs_left w.setup.harts (posted w.fences hart (space_of_number e) (Some (vpn_of_page index))) ≤ fences_left w + 8 * w.setup.harts
           = posted_more w.setup.harts w.fences hart _ in

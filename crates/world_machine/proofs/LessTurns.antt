@@ -106,13 +106,13 @@ module _ (digest_of : List ℕ → List ℕ) (w : WorldData) (k : Kept digest_of
     due_less (Run e budget) Idle here so_far = begin_run_less digest_of w k none hart below true e (Run e budget) here so_far (omega arith)
     due_less (Run e budget) (Running micro count) here so_far =
         run_less digest_of w k none hart below true e budget count micro here so_far positions
-    due_less (Run e budget) (Breaking count) here so_far =
-        ends_less w (restarts w hart count) (lacked_by w hart) (restart_less digest_of w k none hart below true e budget count here so_far)
+    due_less (Run e budget) (Breaking count index) here so_far =
+        ends_less w (restarts w hart count) (lacked_by w hart) (restart_less digest_of w k none hart below true e budget count index here so_far)
     due_less (Resume e budget) Idle here so_far = begin_run_less digest_of w k none hart below false e (Resume e budget) here so_far (omega arith)
     due_less (Resume e budget) (Running micro count) here so_far =
         run_less digest_of w k none hart below false e budget count micro here so_far positions
-    due_less (Resume e budget) (Breaking count) here so_far =
-        ends_less w (restarts w hart count) (lacked_by w hart) (restart_less digest_of w k none hart below false e budget count here so_far)
+    due_less (Resume e budget) (Breaking count index) here so_far =
+        ends_less w (restarts w hart count) (lacked_by w hart) (restart_less digest_of w k none hart below false e budget count index here so_far)
     due_less (Send e word) Idle here so_far =
         changes_less digest_of w k none hart below (Send e word) here so_far (send_refusal (enclave_at w.enclaves e.0)) e.0 _ answer_is.Ok refl
     due_less (Take e) Idle here so_far =

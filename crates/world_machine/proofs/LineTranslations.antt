@@ -37,7 +37,7 @@ use Rattle.world_machine.specs.TranslationsAgree.{WalkStands, Walking, WalkingSt
 abbrev pub isnt_waiting : Under → Bool
 isnt_waiting (Removing page) = false
 isnt_waiting Destroying = false
-isnt_waiting (Breaking count) = false
+isnt_waiting (Breaking count index) = false
 isnt_waiting under = true
 
 -- a line that hasn't begun doesn't wait
@@ -58,14 +58,14 @@ removes_none line under removed is none = none
 -- and its fence is none, or of the host's space
 pub none_given : (line : Option Line) (under : Under) (fence : Option Fence) → isnt_waiting under ≡ true → NumberFenceStands line under fence → IsOfHost fence
 none_given (Some (Destroy e)) Destroying fence is k = (let clash : false ≡ true = is in absurd (let h : ⊥ = cc in h))
-none_given (Some (Run e budget)) (Breaking count) fence is k = (let clash : false ≡ true = is in absurd (let h : ⊥ = cc in h))
-none_given (Some (Resume e budget)) (Breaking count) fence is k = (let clash : false ≡ true = is in absurd (let h : ⊥ = cc in h))
+none_given (Some (Run e budget)) (Breaking count index) fence is k = (let clash : false ≡ true = is in absurd (let h : ⊥ = cc in h))
+none_given (Some (Resume e budget)) (Breaking count index) fence is k = (let clash : false ≡ true = is in absurd (let h : ⊥ = cc in h))
 none_given line under fence is k = k
 
 pub gives_none : (line : Option Line) (under : Under) (fence : Option Fence) → isnt_waiting under ≡ true → IsOfHost fence → NumberFenceStands line under fence
 gives_none (Some (Destroy e)) Destroying fence is of_host = (let clash : false ≡ true = is in absurd (let h : ⊥ = cc in h))
-gives_none (Some (Run e budget)) (Breaking count) fence is of_host = (let clash : false ≡ true = is in absurd (let h : ⊥ = cc in h))
-gives_none (Some (Resume e budget)) (Breaking count) fence is of_host = (let clash : false ≡ true = is in absurd (let h : ⊥ = cc in h))
+gives_none (Some (Run e budget)) (Breaking count index) fence is of_host = (let clash : false ≡ true = is in absurd (let h : ⊥ = cc in h))
+gives_none (Some (Resume e budget)) (Breaking count index) fence is of_host = (let clash : false ≡ true = is in absurd (let h : ⊥ = cc in h))
 gives_none line under fence is of_host = of_host
 
 -- ---- walks
@@ -135,8 +135,8 @@ module _ (tables : ℕ) (ctl ctl' : CtlData) (Fresh Fresh' : TlbEntry → Type 0
     line_walks hart (Some (Create e image pages)) (Putting done) lines same k = tt
     line_walks hart (Some (Shadow e image pages)) (Putting done) lines same k = tt
     line_walks hart (Some (Fork shadow e pages)) (Putting done) lines same k = tt
-    line_walks hart (Some (Run e budget)) (Breaking count) lines same k = tt
-    line_walks hart (Some (Resume e budget)) (Breaking count) lines same k = tt
+    line_walks hart (Some (Run e budget)) (Breaking count index) lines same k = tt
+    line_walks hart (Some (Resume e budget)) (Breaking count index) lines same k = tt
     line_walks hart (Some (Run e budget)) (Running micro count) lines same k = running_stays hart e.0 budget count micro lines (same e.0 refl) k
     line_walks hart (Some (Resume e budget)) (Running micro count) lines same k = running_stays hart e.0 budget count micro lines (same e.0 refl) k
     line_walks hart (Some (Destroy e)) Destroying lines same k = tt

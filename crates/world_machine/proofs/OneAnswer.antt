@@ -75,10 +75,10 @@ module _ (digest_of : List ℕ → List ℕ) (w : WorldData) where
   due_adds hart positions (line_is.Grant e page) Idle = grant_adds digest_of w hart e.0 page
   due_adds hart positions (line_is.Run e budget) Idle = begin_adds digest_of w hart e.0 true
   due_adds hart positions (line_is.Run e budget) (Running micro count) = run_adds digest_of w hart e.0 budget count (enclave_at w.enclaves e.0) positions micro
-  due_adds hart positions (line_is.Run e budget) (Breaking count) = ends_adds w hart (restarts w hart count) (lacked_by w hart) (restart_adds digest_of w hart count)
+  due_adds hart positions (line_is.Run e budget) (Breaking count index) = ends_adds w hart (restarts w hart count) (lacked_by w hart) (restart_adds digest_of w hart count)
   due_adds hart positions (line_is.Resume e budget) Idle = begin_adds digest_of w hart e.0 false
   due_adds hart positions (line_is.Resume e budget) (Running micro count) = run_adds digest_of w hart e.0 budget count (enclave_at w.enclaves e.0) positions micro
-  due_adds hart positions (line_is.Resume e budget) (Breaking count) = ends_adds w hart (restarts w hart count) (lacked_by w hart) (restart_adds digest_of w hart count)
+  due_adds hart positions (line_is.Resume e budget) (Breaking count index) = ends_adds w hart (restarts w hart count) (lacked_by w hart) (restart_adds digest_of w hart count)
   due_adds hart positions (line_is.Send e word) Idle = changes_adds digest_of w hart (send_refusal (enclave_at w.enclaves e.0)) e.0 _ answer_is.Ok
   due_adds hart positions (line_is.Take e) Idle = changes_adds digest_of w hart (take_refusal (enclave_at w.enclaves e.0)) e.0 _ _
   due_adds hart positions (line_is.After actor count) Idle =

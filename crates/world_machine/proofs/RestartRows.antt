@@ -23,7 +23,7 @@ use Rattle.world_machine.specs.Running.{restarts}
 use Rattle.world_machine.specs.Standing.{Kept, state_of, written_page}
 use Rattle.world_machine.specs.TranslationsAgree.{IsFresh, TranslationsStand, WalkingStands, walking}
 use Rattle.world_machine.specs.Worlds.{WorldData, answered_at, hart_line, tlb_at, under_at}
-use Rattle.world_machine.proofs.BreakFences.{breaking_number, breaking_removed, breaking_runs}
+use Rattle.world_machine.proofs.BreakFences.{breaking_number, breaking_removed, breaking_restarts}
 use Rattle.world_machine.proofs.Leaving.{giving_set}
 use Rattle.world_machine.proofs.LineKinds.{goes_on_line}
 use Rattle.world_machine.proofs.LineMoves.{LineMoves}
@@ -36,7 +36,7 @@ use Rattle.world_machine.proofs.RunMoves.{no_put, run_line, run_walking, running
 use Rattle.world_machine.proofs.StandingFences.{fences_given}
 
 module _ (digest_of : List ℕ → List ℕ) (room_stays : RoomStays) (w : WorldData) (k : Kept digest_of w) (none : w.collision ≡ None) (hart : ℕ) (below : hart < w.setup.harts)
-    (first : Bool) (e : EncNo) (budget count : ℕ) (here : hart_line w hart ≡ Some (run_line first e budget)) (so_far : under_at w.under hart ≡ Breaking count)
+    (first : Bool) (e : EncNo) (budget count index : ℕ) (here : hart_line w hart ≡ Some (run_line first e budget)) (so_far : under_at w.under hart ≡ Breaking count index)
     (nobody : lacked_by w hart ≡ None) where
   abbrev s : Monitor
   s = state_of w
@@ -57,7 +57,7 @@ module _ (digest_of : List ℕ → List ℕ) (room_stays : RoomStays) (w : World
   moves = goes_on_line digest_of room_stays w k hart below u (sym (ap is_begun so_far))
 
   -- what holds of the hart's line holds of the run that broke a page, and what holds of the run that goes on holds of the line after the event
-  before : (P : Option Line → Under → Type 0) → P (hart_line w hart) (under_at w.under hart) → P (Some line) (Breaking count)
+  before : (P : Option Line → Under → Type 0) → P (hart_line w hart) (under_at w.under hart) → P (Some line) (Breaking count index)
   before P holds = subst (P (Some line)) so_far (subst (λ l. P l (under_at w.under hart)) here holds)
 
   after : (P : Option Line → Under → Type 0) → P (Some line) u → P (hart_line w hart) u
@@ -73,7 +73,7 @@ module _ (digest_of : List ℕ → List ℕ) (room_stays : RoomStays) (w : World
   -- ---- translations
 
   no_removal : removals_by s.removals hart ≡ []
-  no_removal = breaking_removed first e budget count (removals_by s.removals hart)
+  no_removal = breaking_removed first e budget count index (removals_by s.removals hart)
       (before (λ l v. RemovalStands l v (removals_by s.removals hart)) (k.stands.translations.removals hart))
 
   fresh : (other : ℕ) (entry : TlbEntry) → IsFresh w.setup (enclave_at w.enclaves) s w.fences other entry → IsFresh w.setup (enclave_at w.enclaves) s fences' other entry
@@ -110,7 +110,7 @@ module _ (digest_of : List ℕ → List ℕ) (room_stays : RoomStays) (w : World
 
   own_number : (f : ℕ) → number_under_way (hart_line w hart) u ≡ Some f → number_under_way (hart_line w hart) (under_at w.under hart) ≡ Some f
   own_number f own =
-      ap (λ l. number_under_way l (under_at w.under hart)) here ∙ ap (number_under_way (Some line)) so_far ∙ breaking_number first e budget count
+      ap (λ l. number_under_way l (under_at w.under hart)) here ∙ ap (number_under_way (Some line)) so_far ∙ breaking_number first e budget count index
       ∙ sym (runs_number first e budget count (Fetching Start)) ∙ sym (ap (λ l. number_under_way l u) here) ∙ own
 
   pub restart_kept : Kept digest_of (restarts w hart count)
@@ -129,8 +129,8 @@ module _ (digest_of : List ℕ → List ℕ) (room_stays : RoomStays) (w : World
     other_lines = λ other differs. k.stands.lines other;
     own_line = after (LineUnderWay w.setup (written_page w) (enclave_at w.enclaves) s.number hart)
         (running_is w.setup (written_page w) (enclave_at w.enclaves) s.number hart budget count (Fetching Start) e first
-        (breaking_runs w.setup (written_page w) (enclave_at w.enclaves) s.number hart budget count e first
-        (before (LineUnderWay w.setup (written_page w) (enclave_at w.enclaves) s.number hart) (k.stands.lines hart))));
+        (breaking_restarts w.setup (written_page w) (enclave_at w.enclaves) s.number hart budget count index e first
+        (before (LineUnderWay w.setup (written_page w) (enclave_at w.enclaves) s.number hart) (k.stands.lines hart))).running);
     own_apart = λ other f differs own theirs. differs (k.stands.apart other hart f theirs (own_number f own));
     translations = translations;
   })

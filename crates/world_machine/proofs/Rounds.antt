@@ -84,10 +84,10 @@ module _ (digest_of : List ℕ → List ℕ) (w : WorldData) (nobody : (hart : �
   due_still hart positions (Grant e page) Idle = tt
   due_still hart positions (Run e budget) Idle = tt
   due_still hart positions (Run e budget) (Running micro count) = tt
-  due_still hart positions (Run e budget) (Breaking count) = ending (restarts w hart count) (lacked_by w hart) (nobody hart)
+  due_still hart positions (Run e budget) (Breaking count index) = ending (restarts w hart count) (lacked_by w hart) (nobody hart)
   due_still hart positions (Resume e budget) Idle = tt
   due_still hart positions (Resume e budget) (Running micro count) = tt
-  due_still hart positions (Resume e budget) (Breaking count) = ending (restarts w hart count) (lacked_by w hart) (nobody hart)
+  due_still hart positions (Resume e budget) (Breaking count index) = ending (restarts w hart count) (lacked_by w hart) (nobody hart)
   due_still hart positions (Send e word) Idle = tt
   due_still hart positions (Take e) Idle = tt
   due_still hart positions (After actor count) Idle = waiting actor count _ (leb count (answered_at w.answered actor))

@@ -98,7 +98,7 @@ module _ (digest_of : List ℕ → List ℕ) (room_stays : RoomStays) (w : World
           hart_is = running.hart_is;
           within = running.within;
           retired = running.retired;
-          instruction = instruction_stays (image_of w.setup r.image).pages (written_page w) (page_bytes ctl.mirror) r r refl refl (same_bytes (image_of w.setup r.image).pages) micro' instruction;
+          instruction = instruction_stays (image_of w.setup r.image).pages (written_page w) (page_bytes ctl.mirror) r r refl (same_bytes (image_of w.setup r.image).pages) refl micro' instruction;
         }
 
         own_line : LineUnderWay w.setup (page_bytes ctl.mirror) (enclave_at (with_enclave w.enclaves e.0 r)) s.number hart (hart_line w hart) (Running micro' count)

@@ -295,11 +295,11 @@ module _ (digest_of : List ℕ → List ℕ) where
   due_setup w hart positions (Run e budget) Idle = begins_setup _ _ hart _
   due_setup w hart positions (Run e budget) (Running micro count) =
       run_setup w (record { hart = hart; e = e.0; budget = budget; count = count }) (enclave_at w.enclaves e.0) positions micro
-  due_setup w hart positions (Run e budget) (Breaking count) = ending w.setup (restarts w hart count) (lacked_by w hart) refl
+  due_setup w hart positions (Run e budget) (Breaking count index) = ending w.setup (restarts w hart count) (lacked_by w hart) refl
   due_setup w hart positions (Resume e budget) Idle = begins_setup _ _ hart _
   due_setup w hart positions (Resume e budget) (Running micro count) =
       run_setup w (record { hart = hart; e = e.0; budget = budget; count = count }) (enclave_at w.enclaves e.0) positions micro
-  due_setup w hart positions (Resume e budget) (Breaking count) = ending w.setup (restarts w hart count) (lacked_by w hart) refl
+  due_setup w hart positions (Resume e budget) (Breaking count index) = ending w.setup (restarts w hart count) (lacked_by w hart) refl
   due_setup w hart positions (Send e word) Idle = changes_setup _ w hart e.0 _ _
   due_setup w hart positions (Take e) Idle = changes_setup _ w hart e.0 _ _
   due_setup w hart positions (AfterLine actor count) Idle = waiting w.setup _ _ _ refl

@@ -2,6 +2,8 @@
 use Rattle.std.proofs.Common.{◌≡◌, ◌≢◌, ℕ, ◌+◌, ◌<◌, ◌≤◌, ◌||◌, Bool, true, false, is_some, List, length, slice_get, Option, Some, None, refl, sym, ap, ◌∙◌, subst}
 use Rattle.std.specs.Prelude.{slice_set}
 use Rattle.pl_base.specs.States.{is_free, is_sealed}
+use Rattle.pl_base.specs.declared.access.Kind.{Kind}
+use Rattle.pl_base.specs.declared.access.Kind.TheVariants as kind
 use Rattle.rv_hart.specs.declared.walks.Micro.{Micro}
 use Rattle.rv_hart.specs.declared.walks.Micro.TheVariants.{Fetching}
 use Rattle.rv_hart.specs.declared.walks.Walk.TheVariants.{Start}
@@ -24,14 +26,14 @@ use Rattle.world_machine.specs.declared.under.Under.TheVariants.{Idle, Seeking, 
 use Rattle.world_machine.specs.Answering.{answers}
 use Rattle.world_machine.specs.BytesAgree.{HasPut}
 use Rattle.world_machine.specs.EnclavesAgree.{EnclaveStands, EnclavesAgree, is_made}
-use Rattle.world_machine.specs.LinesUnderWay.{HasBytes, InstructionStands, IsBuilding, IsForking, IsPutting, IsRunning, LineUnderWay, first_table_step}
+use Rattle.world_machine.specs.LinesUnderWay.{HasBytes, InstructionStands, IsAccessed, IsBuilding, IsForking, IsPutting, IsRestarting, IsRunning, LineUnderWay, first_table_step}
 use Rattle.world_machine.specs.Making.{image_of}
 use Rattle.world_machine.specs.PagesAgree.{PagesAgree, PagesAre}
 use Rattle.world_machine.specs.RecordsAgree.{RecordAgrees, RecordsAgree, is_begun}
 use Rattle.world_machine.specs.Standing.{Kept, state_of, written_page}
 use Rattle.world_machine.specs.TranslationsAgree.{IsFresh, WalkingStands, walking}
 use Rattle.world_machine.specs.Worlds.{WorldData, answered_at, hart_line, under_at}
-use Rattle.world_machine.proofs.Frames.{instruction_stays}
+use Rattle.world_machine.proofs.Frames.{accessed_still, instruction_stays}
 use Rattle.world_machine.proofs.LineKinds.{answered_line}
 use Rattle.world_machine.proofs.LineTranslations.{idle_walks, isnt_waiting}
 use Rattle.world_machine.proofs.Lists.{ChangedAt, changed_set, everywhere, if_other, if_same}
@@ -68,7 +70,7 @@ module _ (setup : SetupParts) (bytes : ℕ → List ℕ) (rec rec' : ℕ → Enc
       → InstructionStands (image_of setup r'.image).pages bytes r' micro
   instruction_words r r' micro w k =
       subst (λ n. InstructionStands (image_of setup n).pages bytes r' micro) (sym w.image)
-      (instruction_stays (image_of setup r.image).pages bytes bytes r r' w.context w.pages (ap (λ p. flat_pages bytes (image_of setup r.image).pages (numbers_of p)) w.pages) micro k)
+      (instruction_stays (image_of setup r.image).pages bytes bytes r r' w.context (ap (λ p. flat_pages bytes (image_of setup r.image).pages (numbers_of p)) w.pages) w.pages micro k)
 
   running_words : (f hart budget count : ℕ) (micro : Micro) → IsRunning setup bytes (rec f) (number f) hart budget count micro → IsRunning setup bytes (rec' f) (number' f) hart budget count micro
   running_words f hart budget count micro k = record {
@@ -77,6 +79,23 @@ module _ (setup : SetupParts) (bytes : ℕ → List ℕ) (rec rec' : ℕ → Enc
     within = k.within;
     retired = (same f).retired ∙ k.retired ∙ ap (λ n. n + count) (sym (retired f));
     instruction = instruction_words (rec f) (rec' f) micro (same f) k.instruction;
+  }
+
+  accessed_words : (r r' : Enclave) (va : ℕ) (access : Kind) → SameButWords r r' → IsAccessed (image_of setup r.image).pages bytes r va access
+      → IsAccessed (image_of setup r'.image).pages bytes r' va access
+  accessed_words r r' va access w k =
+      subst (λ n. IsAccessed (image_of setup n).pages bytes r' va access) (sym w.image)
+      (accessed_still (image_of setup r.image).pages bytes bytes r r' w.context (ap (λ p. flat_pages bytes (image_of setup r.image).pages (numbers_of p)) w.pages) va access k)
+
+  restarting_words : (f hart budget count index : ℕ) → IsRestarting setup bytes (rec f) (number f) hart budget count index
+      → IsRestarting setup bytes (rec' f) (number' f) hart budget count index
+  restarting_words f hart budget count index k = record {
+    running = running_words f hart budget count (Fetching Start) k.running;
+    va = k.va;
+    stores = accessed_words (rec f) (rec' f) k.va kind.Store (same f) k.stores;
+    place = k.place;
+    page = k.page;
+    own = ap (λ kinds. slice_get kinds index) (same f).pages ∙ k.own;
   }
 
   putting_words : (r r' : Enclave) (f image : ℕ) (shadow : Bool) (first done : ℕ) → SameButWords r r'
@@ -111,9 +130,9 @@ module _ (setup : SetupParts) (bytes : ℕ → List ℕ) (rec rec' : ℕ → Enc
   line_words hart (Some (Shadow f image pages)) (Putting done) k = building_words f.0 image true pages done k
   line_words hart (Some (Fork shadow f pages)) (Putting done) k = forking_words f.0 done k
   line_words hart (Some (Run f budget)) (Running micro count) k = running_words f.0 hart budget count micro k
-  line_words hart (Some (Run f budget)) (Breaking count) k = running_words f.0 hart budget count (Fetching Start) k
+  line_words hart (Some (Run f budget)) (Breaking count index) k = restarting_words f.0 hart budget count index k
   line_words hart (Some (Resume f budget)) (Running micro count) k = running_words f.0 hart budget count micro k
-  line_words hart (Some (Resume f budget)) (Breaking count) k = running_words f.0 hart budget count (Fetching Start) k
+  line_words hart (Some (Resume f budget)) (Breaking count index) k = restarting_words f.0 hart budget count index k
   line_words hart (Some (Destroy f)) Destroying k = (same f.0).state ∙ k
   line_words hart line under k = elim k [ ]
 

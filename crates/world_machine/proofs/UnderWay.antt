@@ -38,9 +38,9 @@ under_way_busy setup bytes rec number hart e (Some (Create f image pages)) (Putt
 under_way_busy setup bytes rec number hart e (Some (Shadow f image pages)) (Putting done) k is = busy_as rec f.0 e is (ap is_under_way k.putting.state)
 under_way_busy setup bytes rec number hart e (Some (Fork shadow f pages)) (Putting done) k is = busy_as rec f.0 e is (ap is_under_way k.putting.state)
 under_way_busy setup bytes rec number hart e (Some (Run f budget)) (Running micro count) k is = busy_as rec f.0 e is (ap is_under_way k.state)
-under_way_busy setup bytes rec number hart e (Some (Run f budget)) (Breaking count) k is = busy_as rec f.0 e is (ap is_under_way k.state)
+under_way_busy setup bytes rec number hart e (Some (Run f budget)) (Breaking count index) k is = busy_as rec f.0 e is (ap is_under_way k.running.state)
 under_way_busy setup bytes rec number hart e (Some (Resume f budget)) (Running micro count) k is = busy_as rec f.0 e is (ap is_under_way k.state)
-under_way_busy setup bytes rec number hart e (Some (Resume f budget)) (Breaking count) k is = busy_as rec f.0 e is (ap is_under_way k.state)
+under_way_busy setup bytes rec number hart e (Some (Resume f budget)) (Breaking count index) k is = busy_as rec f.0 e is (ap is_under_way k.running.state)
 under_way_busy setup bytes rec number hart e (Some (Destroy f)) Destroying k is = busy_as rec f.0 e is (ap is_under_way k)
 under_way_busy setup bytes rec number hart e line under k is = let clash : None ≡ Some e = is in cc
 

@@ -53,10 +53,10 @@ module _ (digest_of : List ℕ → List ℕ) (w : WorldData) (hart : ℕ) (harts
   due_waits positions (Drop shadow) Idle is = cc
   due_waits positions (Run e budget) Idle is = cc
   due_waits positions (Run e budget) (Running micro count) is = cc
-  due_waits positions (Run e budget) (Breaking count) is = fence_lacks (restarts w hart count) (lacked_by w hart) is
+  due_waits positions (Run e budget) (Breaking count index) is = fence_lacks (restarts w hart count) (lacked_by w hart) is
   due_waits positions (Resume e budget) Idle is = cc
   due_waits positions (Resume e budget) (Running micro count) is = cc
-  due_waits positions (Resume e budget) (Breaking count) is = fence_lacks (restarts w hart count) (lacked_by w hart) is
+  due_waits positions (Resume e budget) (Breaking count index) is = fence_lacks (restarts w hart count) (lacked_by w hart) is
   due_waits positions (Send e word) Idle is = cc
   due_waits positions (Take e) Idle is = cc
   due_waits positions (After actor count) Idle is = absurd (after_waits (leb count (answered_at w.answered actor)) actor count _ is)

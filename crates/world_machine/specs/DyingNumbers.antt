@@ -1,15 +1,15 @@
--- Each enclave number that is dying has the fence of its space; each fence is of an open removal, of a number that is given back, or of a page
--- that was broken.
+-- Each enclave number that is dying has the fence of its space, and each page that was broken, whose instruction hasn't started anew, the fence of
+-- that page; each fence is one of these, or of an open removal.
 use Rattle.std.specs.Prelude.{◌≡◌, ◌⊎◌, ℕ, Some, None}
-use Rattle.pl_base.specs.declared.address.Vpn.{Vpn}
 use Rattle.pl_base.specs.declared.state.State.TheVariants as state_is
 use Rattle.mon_enclave.specs.Records.{enclave_at}
 use Rattle.mon_fence.specs.declared.fences.Fence.{Fence}
 use Rattle.mon_fence.specs.Fences.{fence_of}
+use Rattle.mon_tables.specs.Space.{vpn_of_page}
 use Rattle.pl_history.specs.declared.line.Line.TheVariants.{Destroy}
 use Rattle.world_machine.specs.declared.under.Under.TheVariants.{Breaking, Destroying}
 use Rattle.world_machine.specs.LinesUnderWay.{number_under_way}
-use Rattle.world_machine.specs.FencesStand.{IsOfNumber, IsOfRemoval, removals_by}
+use Rattle.world_machine.specs.FencesStand.{IsBreaking, IsOfNumber, IsOfRemoval, removals_by}
 use Rattle.world_machine.specs.Standing.{state_of}
 use Rattle.world_machine.specs.Worlds.{WorldData, hart_line, under_at}
 
@@ -31,18 +31,25 @@ pub record HasFence (w : WorldData) (e : ℕ) : Type 0 where
   pub is : fence_of w.fences hart ≡ Some fence
   pub gives : GivesBack w hart e fence
 
--- a hart's enclave broke a page of this number, and starts its instruction anew once nobody is lacking
+-- a hart's enclave, of this number, broke a page of its image, and starts its instruction anew once nobody is lacking; the fence is of that page
 pub record BrokeFor (w : WorldData) (hart e : ℕ) (fence : Fence) : Type 0 where
   pub under_way : number_under_way (hart_line w hart) (under_at w.under hart) ≡ Some e
   pub count : ℕ
-  pub breaking : under_at w.under hart ≡ Breaking count
+  pub index : ℕ
+  pub breaking : under_at w.under hart ≡ Breaking count index
   pub of_number : IsOfNumber fence e
-  pub vpn : Vpn
-  pub of_page : fence.vpn ≡ Some vpn
+  pub of_page : fence.vpn ≡ Some (vpn_of_page index)
 
--- each dying number has its fence; each fence is of the removal that its hart has open, or of a dying number that its hart gives back, or of a page that
--- its hart's enclave broke
+-- a break that a hart has yet to start anew from has a fence
+pub record HasBreakFence (w : WorldData) (hart count index : ℕ) : Type 0 where
+  pub e : ℕ
+  pub under_way : number_under_way (hart_line w hart) (under_at w.under hart) ≡ Some e
+  pub fence : IsBreaking (fence_of w.fences hart) e index
+
+-- each dying number has its fence, and so has each page that was broken, until the instruction starts anew; each fence is of the removal that its hart
+-- has open, or of a dying number that its hart gives back, or of a page that its hart's enclave broke
 pub record DyingNumbersFenced (w : WorldData) : Type 0 where
   pub fenced : (e : ℕ) → Dies w e → HasFence w e
+  pub broken : (hart count index : ℕ) → under_at w.under hart ≡ Breaking count index → HasBreakFence w hart count index
   pub others : (hart : ℕ) (fence : Fence) → fence_of w.fences hart ≡ Some fence
       → IsOfRemoval fence (removals_by (state_of w).removals hart) ⊎ ((e : ℕ) × ((GivesBack w hart e fence × Dies w e) ⊎ BrokeFor w hart e fence))

@@ -2,13 +2,12 @@
 -- back has posted a fence of its space, and one whose enclave broke a page a fence of that page; there is no other fence.
 use Rattle.std.specs.Prelude.{◌≡◌, ◌⊎◌, ℕ, ◌==◌, true, List, [], ◌∷◌, length, map, filter, Option, Some, None}
 use Rattle.pl_base.specs.HartSet.{space_of_number}
-use Rattle.pl_base.specs.declared.address.Vpn.{Vpn}
 use Rattle.pl_base.specs.declared.perms.Perms.{Perms}
 use Rattle.mon_fence.specs.declared.fences.Fence.{Fence}
 use Rattle.mon_fence.specs.Fences.{AreFences, fence_of, needs}
 use Rattle.mon_host.specs.Leaves.{host_space}
 use Rattle.mon_host.specs.Laws.{new_mapping}
-use Rattle.mon_tables.specs.Space.{Mapping}
+use Rattle.mon_tables.specs.Space.{Mapping, vpn_of_page}
 use Rattle.pl_history.specs.declared.line.Line.{Line}
 use Rattle.pl_history.specs.declared.line.Line.TheVariants.{Unmap, Destroy, Resume, Run}
 use Rattle.pl_history.specs.Monitor.{Removal}
@@ -43,7 +42,7 @@ abbrev pub RemovalStands : Option Line → Under → List Mapping → Type 0
 RemovalStands (Some (Unmap va)) (Removing page) removed = (perms : Perms) × (removed ≡ new_mapping va page perms ∷ [])
 RemovalStands line under removed = removed ≡ []
 
--- a begun `destroy` has the fence of its number's whole space, and a run that broke a page that of a page there; the fence of any other line is
+-- a begun `destroy` has the fence of its number's whole space, and a run that broke a page that of this page there; the fence of any other line is
 -- none, or of the host's space
 abbrev pub IsOfHost : Option Fence → Type 0
 IsOfHost None = Unit {0}
@@ -55,17 +54,16 @@ pub record IsGiving (fence : Option Fence) (e : ℕ) : Type 0 where
   pub of_number : IsOfNumber posted e
   pub whole : posted.vpn ≡ None
 
-pub record IsBreaking (fence : Option Fence) (e : ℕ) : Type 0 where
+pub record IsBreaking (fence : Option Fence) (e index : ℕ) : Type 0 where
   pub posted : Fence
   pub is : fence ≡ Some posted
   pub of_number : IsOfNumber posted e
-  pub vpn : Vpn
-  pub of_page : posted.vpn ≡ Some vpn
+  pub of_page : posted.vpn ≡ Some (vpn_of_page index)
 
 abbrev pub NumberFenceStands : Option Line → Under → Option Fence → Type 0
 NumberFenceStands (Some (Destroy e)) Destroying fence = IsGiving fence e.0
-NumberFenceStands (Some (Run e budget)) (Breaking count) fence = IsBreaking fence e.0
-NumberFenceStands (Some (Resume e budget)) (Breaking count) fence = IsBreaking fence e.0
+NumberFenceStands (Some (Run e budget)) (Breaking count index) fence = IsBreaking fence e.0 index
+NumberFenceStands (Some (Resume e budget)) (Breaking count index) fence = IsBreaking fence e.0 index
 NumberFenceStands line under fence = IsOfHost fence
 
 -- a fence of this page of a number's space, or of that whole space, still needs this hart

@@ -1,5 +1,5 @@
 -- What holds of each hart's line that has begun, and that no two harts have one number under way.
-use Rattle.std.specs.Prelude.{◌≡◌, ℕ, ◌+◌, ◌%◌, ◌<◌, ◌≤◌, Bool, true, false, is_some, List, length, map, Option, Some, None}
+use Rattle.std.specs.Prelude.{◌≡◌, ℕ, ◌+◌, ◌%◌, ◌<◌, ◌≤◌, Bool, true, false, is_some, slice_get, List, length, map, Option, Some, None}
 use Rattle.std.specs.List.{All}
 use Rattle.pl_base.specs.declared.access.Kind.{Kind}
 use Rattle.pl_base.specs.declared.access.Kind.TheVariants as kind
@@ -7,7 +7,7 @@ use Rattle.pl_base.specs.declared.state.State.TheVariants as state_is
 use Rattle.rv_alone.specs.declared.step.Act.{Act}
 use Rattle.rv_alone.specs.declared.step.Act.TheVariants as act_is
 use Rattle.rv_alone.specs.Effect.{act_of}
-use Rattle.rv_alone.specs.Flat.{fetched}
+use Rattle.rv_alone.specs.Flat.{fetched, page_number}
 use Rattle.rv_hart.specs.declared.walks.Micro.{Micro}
 use Rattle.rv_hart.specs.declared.walks.Micro.TheVariants.{Fetching, Reaching, Faulting}
 use Rattle.rv_hart.specs.declared.walks.Walk.TheVariants.{Start}
@@ -32,9 +32,9 @@ number_under_way (Some (Create e image pages)) (Putting done) = Some e.0
 number_under_way (Some (Shadow e image pages)) (Putting done) = Some e.0
 number_under_way (Some (Fork shadow e pages)) (Putting done) = Some e.0
 number_under_way (Some (Run e budget)) (Running micro count) = Some e.0
-number_under_way (Some (Run e budget)) (Breaking count) = Some e.0
+number_under_way (Some (Run e budget)) (Breaking count index) = Some e.0
 number_under_way (Some (Resume e budget)) (Running micro count) = Some e.0
-number_under_way (Some (Resume e budget)) (Breaking count) = Some e.0
+number_under_way (Some (Resume e budget)) (Breaking count index) = Some e.0
 number_under_way (Some (Destroy e)) Destroying = Some e.0
 number_under_way line under = None
 
@@ -100,6 +100,15 @@ pub record IsRunning (setup : SetupParts) (bytes_of : ℕ → List ℕ) (r : Enc
   pub retired : r.retired ≡ n.retired + count
   pub instruction : InstructionStands (image_of setup r.image).pages bytes_of r micro
 
+-- An enclave that broke page `index` of its image, so that the page is its own: its next instruction, which starts anew, stores there.
+pub record IsRestarting (setup : SetupParts) (bytes_of : ℕ → List ℕ) (r : Enclave) (n : Number) (hart budget count index : ℕ) : Type 0 where
+  pub running : IsRunning setup bytes_of r n hart budget count (Fetching Start)
+  pub va : ℕ
+  pub stores : IsAccessed (image_of setup r.image).pages bytes_of r va kind.Store
+  pub place : page_number va ≡ index
+  pub page : ℕ
+  pub own : slice_get r.pages index ≡ Some (Own page)
+
 -- what holds of a hart's line that is so far; a line that can't be so far isn't
 abbrev pub LineUnderWay : SetupParts → (ℕ → List ℕ) → (ℕ → Enclave) → (ℕ → Number) → ℕ → Option Line → Under → Type 0
 LineUnderWay setup bytes_of record_of number hart line Idle = Unit {0}
@@ -111,11 +120,11 @@ LineUnderWay setup bytes_of record_of number hart (Some (Shadow e image pages)) 
 LineUnderWay setup bytes_of record_of number hart (Some (Fork shadow e pages)) (Putting done) = IsForking setup bytes_of (record_of e.0) e.0 done
 LineUnderWay setup bytes_of record_of number hart (Some (Run e budget)) (Running micro count) =
     IsRunning setup bytes_of (record_of e.0) (number e.0) hart budget count micro
-LineUnderWay setup bytes_of record_of number hart (Some (Run e budget)) (Breaking count) =
-    IsRunning setup bytes_of (record_of e.0) (number e.0) hart budget count (Fetching Start)
+LineUnderWay setup bytes_of record_of number hart (Some (Run e budget)) (Breaking count index) =
+    IsRestarting setup bytes_of (record_of e.0) (number e.0) hart budget count index
 LineUnderWay setup bytes_of record_of number hart (Some (Resume e budget)) (Running micro count) =
     IsRunning setup bytes_of (record_of e.0) (number e.0) hart budget count micro
-LineUnderWay setup bytes_of record_of number hart (Some (Resume e budget)) (Breaking count) =
-    IsRunning setup bytes_of (record_of e.0) (number e.0) hart budget count (Fetching Start)
+LineUnderWay setup bytes_of record_of number hart (Some (Resume e budget)) (Breaking count index) =
+    IsRestarting setup bytes_of (record_of e.0) (number e.0) hart budget count index
 LineUnderWay setup bytes_of record_of number hart (Some (Destroy e)) Destroying = (record_of e.0).state ≡ state_is.Dying
 LineUnderWay setup bytes_of record_of number hart line under = ⊥

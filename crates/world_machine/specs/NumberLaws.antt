@@ -5,8 +5,8 @@ use Rattle.world_machine.specs.NumberImages.{EachIsItsImage}
 use Rattle.world_machine.specs.Reached.{Reached}
 use Rattle.world_machine.specs.Worlds.{WorldData}
 
--- Of every world that is reached: each dying number has the fence of its space, and each fence is of an open removal, of a number that is given
--- back, or of a page that was broken.
+-- Of every world that is reached: each dying number has the fence of its space, each page that was broken, whose instruction hasn't started anew,
+-- the fence of that page, and there is no fence but these and those of open removals.
 abbrev pub DyingNumbersHaveFences : Type 0
 DyingNumbersHaveFences = (digest_of : List ℕ → List ℕ) → ((m : List ℕ) → length (digest_of m) ≡ 32) → (w : WorldData) → Reached digest_of w → DyingNumbersFenced w
 

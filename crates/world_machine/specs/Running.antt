@@ -125,7 +125,7 @@ perms_at setup r index = option_map_or (λ (page : ImagePage). page.perms) (slic
 -- the hart's own translation of the page is dropped, and the instruction starts anew once nobody is lacking
 abbrev pub breaks_done : WorldData → RunNow → ℕ → WorldData
 breaks_done w run index =
-    goes_on (with_tlb w run.hart (without_covered (tlb_at w.tlbs run.hart) (space_of_number (record { 0 = run.e })) (Some (vpn_of_page index)))) run.hart (Breaking run.count)
+    goes_on (with_tlb w run.hart (without_covered (tlb_at w.tlbs run.hart) (space_of_number (record { 0 = run.e })) (Some (vpn_of_page index)))) run.hart (Breaking run.count index)
 
 -- the instruction starts anew, and the hart leaves its fence
 abbrev pub restarts : WorldData → ℕ → ℕ → WorldData

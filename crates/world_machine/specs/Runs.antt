@@ -131,9 +131,9 @@ line_left setup (Some (line.Create e image pages)) (Putting done) = steps_of fal
 line_left setup (Some (line.Shadow e image pages)) (Putting done) = steps_of true (length (image_of setup image).pages) - done
 line_left setup (Some (line.Fork shadow e pages)) (Putting done) = steps_of false MOST_IMAGE_PAGES - done
 line_left setup (Some (line.Run e budget)) (Running micro count) = 8 * (budget - count) - events_made micro
-line_left setup (Some (line.Run e budget)) (Breaking count) = 1 + 8 * (budget - count)
+line_left setup (Some (line.Run e budget)) (Breaking count index) = 1 + 8 * (budget - count)
 line_left setup (Some (line.Resume e budget)) (Running micro count) = 8 * (budget - count) - events_made micro
-line_left setup (Some (line.Resume e budget)) (Breaking count) = 1 + 8 * (budget - count)
+line_left setup (Some (line.Resume e budget)) (Breaking count index) = 1 + 8 * (budget - count)
 line_left setup (Some now) under = 0
 
 abbrev pub hart_left : WorldData → ℕ → ℕ

@@ -16,7 +16,7 @@ pub enum Under {
     Putting { done: u32 },
     /// An enclave runs: where its next instruction is, and how many retired since the line began.
     Running { micro: Micro, count: u32 },
-    /// An enclave broke a page: its instruction starts anew once every other hart has acknowledged the fence of that page. So many instructions
-    /// retired since the line began.
-    Breaking { count: u32 },
+    /// An enclave broke the page of its image with this index: its instruction, which stores there, starts anew once every other hart has
+    /// acknowledged the fence of that page. So many instructions retired since the line began.
+    Breaking { count: u32, index: u32 },
 }
