@@ -62,8 +62,8 @@ module _ (digest_of : List ℕ → List ℕ) (w : WorldData) (k : Kept digest_of
   has_break_fence : (hart count index : ℕ) → under_at w.under hart ≡ Breaking count index → HasBreakFence w hart count index
   has_break_fence hart count index is =
       let so = of_break w.setup (written_page w) (enclave_at w.enclaves) s.number hart (hart_line w hart) count index (fence_of w.fences hart)
-          (subst (LineUnderWay w.setup (written_page w) (enclave_at w.enclaves) s.number hart (hart_line w hart)) is (k.stands.lines hart))
-          (subst (λ u. NumberFenceStands (hart_line w hart) u (fence_of w.fences hart)) is (k.stands.translations.giving hart)) in
+      (subst (LineUnderWay w.setup (written_page w) (enclave_at w.enclaves) s.number hart (hart_line w hart)) is (k.stands.lines hart))
+      (subst (λ u. NumberFenceStands (hart_line w hart) u (fence_of w.fences hart)) is (k.stands.translations.giving hart)) in
       record { e = so.e; under_way = ap (number_under_way (hart_line w hart)) is ∙ so.under_way; fence = so.fence_is }
 
   module _ (e : ℕ) (g : IsGivenBackBy w.setup s e) where
