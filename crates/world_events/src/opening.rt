@@ -37,7 +37,6 @@ fn zero_counts(alloc: Global, actors: usize) -> Result<Listed<u32>, AllocError>
 
 impl<D: Digester, F: Drop> Machine<D, F> {
     /// The machine with which a run of a setup begins. It takes all memory that the run needs.
-    #[tactic(auto, unfolding(world_machine::specs::Reached::opening_world))]
     pub fn opening(
         alloc: Global,
         digester: D,
