@@ -12,7 +12,7 @@ use Rattle.toml.specs.declared.de.error.Error.{Error}
 use Rattle.world_machine.specs.declared.turned.Finished.{Finished}
 use Rattle.world_machine.specs.declared.turned.Finished.TheVariants as finished
 use Rattle.world_machine.specs.Worlds.{WorldData}
-use Rattle.world_setup.specs.Arguments.{within}
+use Rattle.world_lines.specs.Arguments.{within}
 use Rattle.world_setup.specs.Generating.{generated}
 use Rattle.world_setup.specs.SetupOf.{setup_of}
 use Rattle.penglai_main.specs.declared.top.Command.{Command}

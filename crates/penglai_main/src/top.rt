@@ -9,7 +9,7 @@ ghost use Rattle.penglai_main.specs.Play.{RunEnds};
 ghost use Rattle.penglai_main.specs.Top.{Explains, NumberFits, Untouched, choice_gives, command_of, no_choice};
 ghost use Rattle.pl_io.specs.Numbers.{dec_value};
 ghost use Rattle.sha2.specs.Sha256.{sha256};
-ghost use Rattle.world_setup.specs.Arguments.{within};
+ghost use Rattle.world_lines.specs.Arguments.{within};
 ghost use Rattle.world_setup.specs.Generating.{generated};
 
 use crate::measure::put_measurements;
@@ -22,7 +22,8 @@ use pl_digest::Sha;
 use pl_history::ChoiceName;
 use pl_io::{Sink, Source, read_dec};
 use std::alloc::Global;
-use world_setup::{generate, within};
+use world_lines::within;
+use world_setup::generate;
 
 // The greatest number of a generated load.
 const MOST_NUMBER: u32 = 65535;

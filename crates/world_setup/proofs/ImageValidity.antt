@@ -10,13 +10,13 @@ use Rattle.mon_image.specs.declared.page.ImagePage.{ImagePage}
 use Rattle.mon_image.specs.declared.image.Image.{Image}
 use Rattle.pl_base.specs.Perms.{are_page_perms}
 use Rattle.pl_history.specs.Rules.{is_within, is_page, is_entry, is_image}
+use Rattle.world_lines.specs.Arguments.{perms_of_text}
+use Rattle.world_lines.proofs.FormLemmas.{perms_pass}
 use Rattle.world_setup.specs.TomlData.{members_in, text_at}
-use Rattle.world_setup.specs.Arguments.{perms_of_text}
 use Rattle.world_setup.specs.Keys.{images_in, pages_in}
 use Rattle.world_setup.specs.Images.{is_image_array, entry_at, perms_at, bytes_at, page_of_bytes, page_of, image_pages_of, image_from, image_of, images_hold, pages_hold, images_of}
 use Rattle.world_setup.proofs.Chains.{unless_held, held}
 use Rattle.world_setup.proofs.Choices.{chosen, ok_same, fewer, all_chosen}
-use Rattle.world_setup.proofs.FormLemmas.{perms_pass}
 use Rattle.world_setup.proofs.ImageRules.{images_fit}
 
 pub page_size : (bytes : List ℕ) → length (page_of_bytes bytes) ≡ 4096

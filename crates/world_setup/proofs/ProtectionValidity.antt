@@ -9,14 +9,14 @@ use Rattle.pl_base.specs.declared.actor.Actor.{Actor}
 use Rattle.rv_pmp.specs.declared.rule.Rule.{Rule}
 use Rattle.rv_pmp.specs.Rule.{is_valid}
 use Rattle.pl_history.specs.Rules.{is_within, are_entries, is_protection, is_actor}
+use Rattle.world_lines.specs.Entries.{entry_of}
+use Rattle.world_lines.specs.Order.{order_of}
+use Rattle.world_lines.proofs.EntryLemmas.{entry_is_valid}
+use Rattle.world_lines.proofs.OrderLemmas.{order_is_known}
 use Rattle.world_setup.specs.Checked.{Checked}
 use Rattle.world_setup.specs.TomlData.{list_of}
-use Rattle.world_setup.specs.Entries.{entry_of}
-use Rattle.world_setup.specs.Order.{order_of}
 use Rattle.world_setup.specs.Protection.{if_above, entry_above, entry_then, entries_from, entries_of, protection_of, by_rule_13, order_in, order_at}
 use Rattle.world_setup.proofs.Choices.{chosen, ok_same}
-use Rattle.world_setup.proofs.EntryLemmas.{entry_is_valid}
-use Rattle.world_setup.proofs.OrderLemmas.{order_is_known}
 
 record Fits (before : ℕ) (entry : ℕ × Rule) : Type 0 where
   above : is_within (before + 1) 12 entry.0 ≡ true

@@ -6,9 +6,9 @@ use Rattle.std.proofs.lemmas.Bool.{and_parts}
 use Rattle.std.proofs.lemmas.List.Folds.{list_all-append}
 use Rattle.std.proofs.lemmas.List.Sums.{sum_by-cons}
 use Rattle.toml.specs.Data.{Data, Members}
+use Rattle.world_lines.specs.Forms.{line_of, attack_line_of}
 use Rattle.world_setup.specs.declared.scripts.Scripts.{Scripts}
 use Rattle.world_setup.specs.Keys.{harts_in}
-use Rattle.world_setup.specs.Forms.{line_of, attack_line_of}
 use Rattle.world_setup.specs.Scripts.{hart_texts, script_texts, attack_texts, has_no_form, has_no_attack_form, forms_hold, hart_lines, attack_script, IsRead}
 use Rattle.world_setup.proofs.Chains.{none_held, none_last, all_from, none_from}
 use Rattle.world_setup.proofs.Choices.{all_counted, all_where_counted, none_mapped}

@@ -7,14 +7,14 @@ use Rattle.std.proofs.lemmas.List.{length-map}
 use Rattle.std.proofs.lemmas.List.Sums.{sum_by-cons}
 use Rattle.toml.specs.Data.{Data, string, integer, float, boolean, datetime, array, table, Members, get_member}
 use Rattle.pl_history.specs.Rules.{is_line, is_attack_line}
+use Rattle.world_lines.specs.Forms.{line_of, attack_line_of}
+use Rattle.world_lines.proofs.FormLemmas.{line_has_form, attack_line_has_form}
 use Rattle.world_setup.specs.declared.scripts.Scripts.{Scripts}
 use Rattle.world_setup.specs.TomlData.{list_of, items_at}
 use Rattle.world_setup.specs.Keys.{harts_in}
-use Rattle.world_setup.specs.Forms.{line_of, attack_line_of}
 use Rattle.world_setup.specs.Scripts.{has_script, is_hart_array, hart_texts, script_texts, attack_texts, scripts_hold, forms_hold, hart_lines, attack_script, scripts_of}
 use Rattle.world_setup.proofs.Chains.{unless_held, held}
 use Rattle.world_setup.proofs.Choices.{ok_same, fewer, all_chosen}
-use Rattle.world_setup.proofs.FormLemmas.{line_has_form, attack_line_has_form}
 
 -- as many scripts as harts
 harts_fit : (harts : ℕ) (d : Option Data) → is_hart_array harts d ≡ true → length (items_at d) ≡ harts

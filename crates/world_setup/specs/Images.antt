@@ -9,10 +9,10 @@ use Rattle.mon_image.specs.declared.page.ImagePage.{ImagePage}
 use Rattle.mon_image.specs.declared.image.Image.{Image}
 use Rattle.pl_base.specs.declared.page.TheConstants.{IMAGE_START}
 use Rattle.pl_history.specs.Rules.{is_within, is_entry}
+use Rattle.world_lines.specs.Arguments.{perms_of_text, bytes_of_hex}
 use Rattle.world_setup.specs.Checked.{Checked, ◌>>=◌, unless, none_at}
 use Rattle.world_setup.specs.TomlData.{list_of, members_in, text_at, is_table}
 use Rattle.world_setup.specs.Keys.{images_in, pages_at, pages_in}
-use Rattle.world_setup.specs.Arguments.{perms_of_text, bytes_of_hex}
 
 -- absent, or an array of at most 64 tables
 abbrev pub is_image_array : Option Data → Bool

@@ -7,11 +7,5 @@ pub mod Images
 pub mod Scripts
 pub mod Protection
 pub mod SetupOf
-pub mod Words
-pub mod Arguments
-pub mod PageLists
-pub mod Forms
-pub mod Entries
-pub mod Order
 pub mod References
 pub mod Generating

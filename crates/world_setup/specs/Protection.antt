@@ -5,10 +5,10 @@ use Rattle.toml.specs.Data.{Data, string, array, Members, get_member, as_str}
 use Rattle.pl_base.specs.declared.actor.Actor.{Actor}
 use Rattle.rv_pmp.specs.declared.rule.Rule.{Rule}
 use Rattle.pl_history.specs.Rules.{is_within}
+use Rattle.world_lines.specs.Entries.{entry_of}
+use Rattle.world_lines.specs.Order.{order_of}
 use Rattle.world_setup.specs.Checked.{Checked}
 use Rattle.world_setup.specs.TomlData.{list_of}
-use Rattle.world_setup.specs.Entries.{entry_of}
-use Rattle.world_setup.specs.Order.{order_of}
 
 -- its number is above `before`
 abbrev pub if_above : ℕ → ℕ × Rule → Option (ℕ × Rule)

@@ -4,11 +4,11 @@ use Rattle.std.specs.List.{list_all, filter_map, flat_map, position_from}
 use Rattle.toml.specs.Data.{Data, array, Members, get_member, as_str}
 use Rattle.pl_history.specs.declared.line.Line.{Line}
 use Rattle.pl_history.specs.declared.line.AttackLine.{AttackLine}
+use Rattle.world_lines.specs.Forms.{line_of, attack_line_of}
 use Rattle.world_setup.specs.declared.scripts.Scripts.{Scripts}
 use Rattle.world_setup.specs.Checked.{Checked, ◌>>=◌, unless, none_at}
 use Rattle.world_setup.specs.TomlData.{list_of, members_in, items_at, is_text}
 use Rattle.world_setup.specs.Keys.{harts_in}
-use Rattle.world_setup.specs.Forms.{line_of, attack_line_of}
 
 -- ---- arrays of strings
 

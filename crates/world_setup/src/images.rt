@@ -4,12 +4,11 @@ ghost use Rattle.std.specs.List.{filter_map, flat_map};
 ghost use Rattle.std.specs.Option.{option_to_list};
 ghost use Rattle.toml.specs.View.{view, table_view};
 ghost use Rattle.pl_history.specs.Rules.{is_entry};
-ghost use Rattle.world_setup.specs.Arguments.{bytes_of_hex};
+ghost use Rattle.world_lines.specs.Arguments.{bytes_of_hex};
 ghost use Rattle.world_setup.specs.Answers.{Answers};
 ghost use Rattle.world_setup.specs.Keys.{images_in, pages_in};
 ghost use Rattle.world_setup.specs.Images.{is_image_array, entry_at, enters, has_entry, is_page_array, has_pages, perms_at, bytes_at, has_perms, has_bytes, page_of_bytes, page_of, image_pages_of, image_from, image_of, pages_hold, images_hold, images_of};
 
-use crate::arguments::{are_hex_digits, bytes_of_hex, perms_of_text};
 use crate::fault::{SetupFault, none_at, unless};
 use crate::keys::pages_in;
 use crate::toml_data::{are_tables, items_at, member, member_of, text_of};
@@ -18,6 +17,7 @@ use pl_base::{IMAGE_START, Listed, Memory, PAGE_BYTES, Perms};
 use pl_io::read_hex;
 use std::alloc::Global;
 use toml::{Table, Value};
+use world_lines::{bytes_of_hex, is_hex_text, perms_of_text};
 
 // Absent, or an array of at most 64 tables.
 #[tactic(auto, using(crate::proofs::ViewRules::views))]
@@ -102,14 +102,6 @@ fn has_perms(page: &Value) -> bool
     ensures { result ≡ has_perms (view page.now) }
 {
     perms_at(page).is_some()
-}
-
-// Whether a text is at most 4,096 bytes, two digits `0-9a-f` each.
-#[tactic(auto, using(crate::proofs::HexTexts::is_hex_text))]
-fn is_hex_text(text: &[u8]) -> bool
-    ensures { result ≡ is_some (bytes_of_hex text.now) }
-{
-    text.len() % 2 == 0 && text.len() <= 2 * PAGE_BYTES as usize && are_hex_digits(text)
 }
 
 fn has_bytes(page: &Value) -> bool

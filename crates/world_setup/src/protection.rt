@@ -4,14 +4,13 @@ ghost use Rattle.toml.specs.View.{view, table_view};
 ghost use Rattle.world_setup.specs.Answers.{Answers};
 ghost use Rattle.world_setup.specs.Protection.{entry_above, entries_from, entries_of, protection_of, order_in, order_at};
 
-use crate::entries::entry_of;
 use crate::fault::SetupFault;
-use crate::order::order_of;
 use crate::toml_data::member;
 use pl_base::{Actor, Listed};
 use rv_pmp::Rule;
 use std::alloc::Global;
 use toml::{Table, Value};
+use world_lines::{entry_of, order_of};
 
 // The entry of a string, above the one before.
 fn entry_above(before: u8, item: &Value) -> Option<(u8, Rule)>

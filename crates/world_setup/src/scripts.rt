@@ -4,18 +4,18 @@ ghost use Rattle.std.specs.List.{list_all, filter_map, flat_map, position_from};
 ghost use Rattle.std.specs.Option.{option_to_list};
 ghost use Rattle.toml.specs.Data.{as_str};
 ghost use Rattle.toml.specs.View.{view, table_view};
+ghost use Rattle.world_lines.specs.Forms.{line_of, attack_line_of};
 ghost use Rattle.world_setup.specs.Answers.{Answers};
-ghost use Rattle.world_setup.specs.Forms.{line_of, attack_line_of};
 ghost use Rattle.world_setup.specs.Keys.{harts_in};
 ghost use Rattle.world_setup.specs.Scripts.{is_script, has_script, is_hart_array, is_attack_array, texts_in, hart_texts, script_texts, attack_texts, has_no_form, has_no_attack_form, scripts_hold, forms_hold, hart_lines, attack_script, scripts_of, IsRead};
 
 use crate::fault::{SetupFault, after, none_at, unless};
-use crate::forms::{attack_line_of, line_of};
 use crate::toml_data::{are_texts, items_at, items_of, member, member_of};
 use pl_base::{Listed, Memory};
 use pl_history::{AttackLine, Line};
 use std::alloc::Global;
 use toml::{Table, Value};
+use world_lines::{attack_line_of, line_of};
 
 // The most lines of all scripts.
 const MOST_LINES: usize = 65_536;

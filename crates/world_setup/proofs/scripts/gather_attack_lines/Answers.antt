@@ -1,5 +1,5 @@
 use Rattle.std.proofs.Common.{[]}
-use Rattle.world_setup.specs.Forms.{attack_line_of}
+use Rattle.world_lines.specs.Forms.{attack_line_of}
 use Rattle.world_setup.proofs.Steps.{pushed_at}
 use Rattle.world_setup.proofs.scripts.gather_attack_lines.Goals as goal
 

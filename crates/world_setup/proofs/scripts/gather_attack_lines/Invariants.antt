@@ -1,6 +1,6 @@
 use Rattle.std.proofs.Common.{◌≡◌, take}
 use Rattle.std.specs.List.{filter_map}
-use Rattle.world_setup.specs.Forms.{attack_line_of}
+use Rattle.world_lines.specs.Forms.{attack_line_of}
 use Rattle.world_setup.proofs.scripts.gather_attack_lines.Given as goal
 
 abbrev pub invariant-loop-text : goal.invariant-loop-text

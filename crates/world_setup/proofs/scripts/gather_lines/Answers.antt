@@ -1,5 +1,5 @@
 use Rattle.std.proofs.Common.{[]}
-use Rattle.world_setup.specs.Forms.{line_of}
+use Rattle.world_lines.specs.Forms.{line_of}
 use Rattle.world_setup.proofs.Steps.{pushed_at}
 use Rattle.world_setup.proofs.scripts.gather_lines.Goals as goal
 

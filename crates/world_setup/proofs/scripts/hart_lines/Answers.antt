@@ -1,6 +1,6 @@
 use Rattle.std.proofs.Common.{map, sym, ap, ◌∙◌}
 use Rattle.std.specs.List.{filter_map}
-use Rattle.world_setup.specs.Forms.{line_of}
+use Rattle.world_lines.specs.Forms.{line_of}
 use Rattle.world_setup.proofs.Steps.{filter_map-map}
 use Rattle.world_setup.proofs.scripts.hart_lines.Goals as goal
 

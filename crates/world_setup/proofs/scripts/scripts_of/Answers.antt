@@ -2,7 +2,7 @@ use Rattle.std.proofs.Common.{◌≡◌, ◌+◌, ◌≤◌, length, map, ap, sy
 use Rattle.std.specs.List.{filter_map}
 use Rattle.std.proofs.lemmas.List.{length-map}
 use Rattle.toml.specs.View.{table_view}
-use Rattle.world_setup.specs.Forms.{line_of}
+use Rattle.world_lines.specs.Forms.{line_of}
 use Rattle.world_setup.specs.Keys.{harts_in}
 use Rattle.world_setup.specs.Scripts.{script_texts, attack_texts, forms_hold}
 use Rattle.world_setup.proofs.ScriptReads.{all_lines_read, chosen_count}
