@@ -1,6 +1,5 @@
 -- What each actor's turn needs, and the attacker's turn.
 use Rattle.std.specs.Prelude.{ℕ, ◌<◌, length}
-use Rattle.pl_history.specs.declared.line.Line.{Line}
 use Rattle.pl_base.specs.declared.actor.Actor.{Actor}
 use Rattle.pl_base.specs.declared.actor.Actor.TheVariants as actor_is
 use Rattle.world_events.specs.declared.dues.Attack.{Attack}

@@ -3,7 +3,6 @@ use Rattle.std.specs.Prelude.{ℕ, ◌≡◌, List}
 use Rattle.mem_ctl.specs.Results.{AreGiven}
 use Rattle.mem_slots.specs.declared.slot_use.SlotUse.{SlotUse}
 use Rattle.world_machine.specs.declared.turned.Turned.{Turned}
-use Rattle.world_machine.specs.Answering.{answers}
 use Rattle.world_machine.specs.Steps.{Turn, moves, rests, shown_by, turned_by}
 use Rattle.world_machine.specs.Worlds.{WorldData}
 

@@ -14,8 +14,6 @@ use Rattle.pl_base.specs.declared.access.Kind.TheVariants as kind
 use Rattle.pl_base.specs.declared.address.Vpn.{Vpn}
 use Rattle.pl_base.specs.declared.number.EncNo.{EncNo}
 use Rattle.rv_hart.specs.declared.walks.Micro.{Micro}
-use Rattle.rv_hart.specs.declared.walks.Micro.TheVariants.{Fetching}
-use Rattle.rv_hart.specs.declared.walks.Walk.TheVariants.{Start}
 use Rattle.rv_tlb.specs.declared.tlb.TlbEntry.{TlbEntry}
 use Rattle.mem_ctl.specs.Access.{Leaves}
 use Rattle.mem_ctl.specs.Data.{CtlData}

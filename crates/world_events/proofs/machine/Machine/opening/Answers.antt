@@ -4,11 +4,9 @@ use Rattle.mon_enclave.specs.Records.{free_enclave}
 use Rattle.mon_owner.specs.Owners.{first_owners}
 use Rattle.mon_tables.specs.Tables.{start_words}
 use Rattle.pl_history.specs.declared.setup.SetupParts.{SetupParts}
-use Rattle.pl_history.specs.History.{HistoryData}
 use Rattle.pl_history.specs.Rules.{guarded_of, pages_of}
 use Rattle.world_machine.specs.declared.under.Under.TheVariants.{Idle}
 use Rattle.world_machine.specs.Reached.{opening_world}
-use Rattle.world_machine.specs.Worlds.{WorldData}
 use Rattle.world_events.proofs.machine.Machine.opening.Goals as goal
 
 pub protection-pmp-requires : goal.protection-pmp-requires
