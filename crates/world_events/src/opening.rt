@@ -1,6 +1,10 @@
 // The machine that a run begins with.
-ghost use Rattle.std.specs.Prelude.{◌≡◌, IfOk, replicate};
+ghost use Rattle.std.specs.Prelude.{◌≡◌, ◌≤◌, ◌+◌, [], IfOk, replicate};
+ghost use Rattle.mon_enclave.specs.Records.{free_enclave};
+ghost use Rattle.mon_owner.specs.Owners.{first_owners};
+ghost use Rattle.pl_history.specs.Rules.{guarded_of, pages_of};
 ghost use Rattle.world_machine.specs.Reached.{opening_world};
+ghost use Rattle.world_events.specs.Opening.{empty_history};
 
 use crate::machine::Machine;
 use crate::tlbs::Tlbs;
@@ -35,6 +39,66 @@ fn zero_counts(alloc: Global, actors: usize) -> Result<Listed<u32>, AllocError>
     Ok(Listed::from_vec(counts))
 }
 
+/// The owners of all pages, and the records of all numbers, of which each is free.
+fn free_records(
+    alloc: Global,
+    zones: u8,
+    tables: u8,
+    enclaves: u8,
+) -> Result<(Owners, Enclaves), Memory>
+    requires some { 1 ≤ enclaves }
+    requires few { enclaves ≤ 64 }
+    requires room { guarded_of tables enclaves ≤ pages_of zones }
+    ensures { IfOk result (λ records. records ≡ (first_owners (guarded_of tables enclaves) (pages_of zones), replicate enclaves free_enclave)) }
+{
+    let guarded = guarded_pages(tables, enclaves);
+    let owners = Owners::new(alloc, guarded, all_pages(zones))?;
+    let enclaves = Enclaves::new(alloc, enclaves)?;
+    Ok((owners, enclaves))
+}
+
+/// Of so many harts the translations, which are none, and how far each one's line is; and the counts of answered lines, the
+/// attacker's last.
+fn idle_harts(alloc: Global, harts: u8) -> Result<(Tlbs, Listed<Under>, Listed<u32>), AllocError>
+    ensures { IfOk result (λ idle. idle ≡ (replicate harts [], replicate harts Under.Idle, replicate (harts + 1) 0)) }
+{
+    let tlbs = Tlbs::new(alloc, harts)?;
+    let under = idle_lines(alloc, harts)?;
+    let answered = zero_counts(alloc, usize::from(harts) + 1)?;
+    Ok((tlbs, under, answered))
+}
+
+/// The history that a run of a setup begins with: empty, with room for all that the run adds.
+fn history_of(alloc: Global, setup: &Setup) -> Result<History, Memory>
+    ensures { IfOk result (λ history. history ≡ empty_history setup.now) }
+{
+    let (entries, bytes) = room_for(setup);
+    Ok(History::new(alloc, entries, bytes)?)
+}
+
+/// All parts that a machine begins with but its controller.
+fn all_but_controller(
+    alloc: Global,
+    setup: &Setup,
+) -> Result<
+    (
+        (Owners, Enclaves),
+        (Tlbs, Listed<Under>, Listed<u32>),
+        History,
+    ),
+    Memory,
+>
+    ensures records { IfOk result (λ parts. parts.0 ≡ (first_owners (guarded_of setup.now.tables setup.now.enclaves) (pages_of setup.now.zones), replicate setup.now.enclaves free_enclave)) }
+    ensures idle { IfOk result (λ parts. parts.1 ≡ (replicate setup.now.harts [], replicate setup.now.harts Under.Idle, replicate (setup.now.harts + 1) 0)) }
+    ensures history { IfOk result (λ parts. parts.2 ≡ empty_history setup.now) }
+{
+    let parts = setup.parts();
+    let records = free_records(alloc, parts.zones, parts.tables, parts.enclaves)?;
+    let idle = idle_harts(alloc, parts.harts)?;
+    let history = history_of(alloc, setup)?;
+    Ok((records, idle, history))
+}
+
 impl<D: Digester, F: Drop> Machine<D, F> {
     /// The machine with which a run of a setup begins. It takes all memory that the run needs.
     pub fn opening(
@@ -45,6 +109,7 @@ impl<D: Digester, F: Drop> Machine<D, F> {
     ) -> Result<Machine<D, F>, Memory>
         ensures { IfOk result (λ m. m ≡ (opening_world D.digest_of setup, choice)) }
     {
+        let rest = all_but_controller(alloc, &setup)?;
         let parts = setup.parts();
         let words = start_words(parts.tables);
         let ctl = Ctl::new(
@@ -55,16 +120,9 @@ impl<D: Digester, F: Drop> Machine<D, F> {
             words.as_slice(),
             choice,
         )?;
-        let guarded = guarded_pages(parts.tables, parts.enclaves);
-        let owners = Owners::new(alloc, guarded, all_pages(parts.zones))?;
-        let enclaves = Enclaves::new(alloc, parts.enclaves)?;
-        let tlbs = Tlbs::new(alloc, parts.harts)?;
         let fences = Fences::new(parts.harts);
-        let under = idle_lines(alloc, parts.harts)?;
-        let answered = zero_counts(alloc, usize::from(parts.harts) + 1)?;
-        let (entries, bytes) = room_for(&setup);
-        let history = History::new(alloc, entries, bytes)?;
         let pmp = parts.protection();
+        let ((owners, enclaves), (tlbs, under, answered), history) = rest;
         Ok(Machine {
             setup,
             pmp,
