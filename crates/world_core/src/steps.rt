@@ -15,6 +15,7 @@ use pl_digest::Digester;
 use pl_history::Answer;
 use world_events::{Due, Machine, Run, WordAccess};
 use world_machine::{Turned, Under, Wait};
+use world_runs::go;
 
 /// `load` and `store`, so far.
 fn access<D: Digester, F: Fn(&[SlotUse]) -> usize>(
@@ -167,7 +168,7 @@ fn run<D: Digester, F: Fn(&[SlotUse]) -> usize>(
                 budget,
                 count,
             };
-            machine.go(run, micro);
+            go(machine, run, micro);
         }
         Under::Breaking { count, .. } => return machine.breaking_turn(hart, count),
         Under::Seeking { .. } => return Turned::Done,

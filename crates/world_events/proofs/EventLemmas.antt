@@ -1,41 +1,35 @@
 -- Events with an access, from what the controller answered.
-use Rattle.std.proofs.Common.{◌≡◌, ℕ, ◌+◌, List, [], Bool, Option, Some, refl, sym, ap, ◌∙◌, subst, if◌then◌else◌}
-use Rattle.std.specs.Prelude.{Result, Ok, Err, OnErr}
+use Rattle.std.proofs.Common.{◌≡◌, ℕ, ◌+◌, List, [], Bool, Option, Some, ap, ◌∙◌, subst, if◌then◌else◌}
+use Rattle.std.specs.Prelude.{Result, Ok, Err}
 use Rattle.pl_base.specs.declared.address.Pa.{Pa}
 use Rattle.pl_base.specs.declared.address.Va.{Va}
 use Rattle.pl_base.specs.declared.perms.Perms.{Perms}
 use Rattle.pl_base.specs.declared.place.Place.{Place}
 use Rattle.pl_base.specs.declared.refusal.No.{No}
-use Rattle.pl_base.specs.declared.refusal.No.TheVariants as refused
 use Rattle.rv_hart.specs.declared.seeking.Sought.{Sought}
 use Rattle.mem_slots.specs.declared.slot_use.SlotUse.{SlotUse}
-use Rattle.mem_ctl.specs.declared.broken.Broken.{Broken}
 use Rattle.mem_ctl.specs.Calls.{read_word_of}
 use Rattle.mem_ctl.specs.Data.{After, CtlData, Going, Outcome, Value, Fault, Collision, Again, going}
 use Rattle.mem_ctl.specs.Results.{IsCall}
 use Rattle.mem_ctl.specs.Stops.{StepAnswer, Done, Refused, Collided, answer_to}
 use Rattle.mon_enclave.specs.declared.enclave.Enclave.{Enclave}
-use Rattle.mon_enclave.specs.Records.{enclave_at, with_enclave, with_own_page}
 use Rattle.mon_fence.specs.declared.fences.Fence.{Fence}
 use Rattle.mon_host.specs.Leaves.{HostEvent, IsHostEvent, host_answer}
 use Rattle.mon_host.specs.Mapping.{map_of}
 use Rattle.mon_host.specs.Unmapping.{unmap_begun}
 use Rattle.mon_life.specs.Putting.{CreatePut, IsCreatePut, create_put}
 use Rattle.mon_owner.specs.declared.owners.Owner.{Owner}
-use Rattle.mon_shadow.specs.Breaking as breaking
-use Rattle.mon_shadow.specs.Breaking.{IsPageBroken, PageBroken, if_put, page_broken}
-use Rattle.pl_history.specs.declared.answer.Answer.TheVariants as answer_is
-use Rattle.world_events.specs.Conditions.{CanLeave}
 use Rattle.world_events.specs.Events.{IsEvent, mapped_by, put_by, unmapped_by}
-use Rattle.world_events.specs.Running.{break_goes, run_faults, runner}
 use Rattle.world_machine.specs.declared.under.Under.TheVariants.{Putting}
 use Rattle.world_machine.specs.Answering.{accesses, answers, decided, goes_on, quiet}
 use Rattle.world_machine.specs.HostAccessing.{host_faults}
 use Rattle.world_machine.specs.HostMapping.{begins_unmap, mapped, maps, unmapped}
 use Rattle.world_machine.specs.Making.{image_of, put_next}
-use Rattle.world_machine.specs.Running.{RunNow, breaks_done, breaks_page, faults, perms_at}
+use Rattle.world_machine.specs.Running.{faults}
 use Rattle.world_machine.specs.Translating.{offset_at, page_at, translated}
 use Rattle.world_machine.specs.Worlds.{Event, WorldData}
+use Rattle.pl_base.specs.declared.refusal.No.TheVariants as refused
+use Rattle.pl_history.specs.declared.answer.Answer.TheVariants as answer_is
 
 -- an event without an access
 pub quiet_event : (gives : List SlotUse → ℕ → Type 0) (new now : WorldData) → new ≡ now → IsEvent gives (λ positions. quiet now) new
@@ -140,57 +134,3 @@ unmap_event gives digest_of old mid new hart va answered step rest is = record {
       let same : mid ≡ left = rest ∙ ap (λ (x : CtlData). record old { ctl = x; fences = mid.fences }) step.now ∙ ap (λ (all : List (Option Fence)). record old { ctl = event.step.after.ctl; fences = all }) step.rest_is in
       is ∙ ap (λ (w : WorldData). unmapped_by w hart va answered) same ∙ unmap_decided left hart va event.step.outcome answered step.is;
 }
-
--- ---- pages that are broken
-
-module _ (gives : List SlotUse → ℕ → Type 0) (digest_of : List ℕ → List ℕ) (old mid new : WorldData) (run : RunNow) (index : ℕ) where
-  abbrev pub break_call : Going → PageBroken
-  break_call = page_broken digest_of old.setup.tables run.hart (record { 0 = run.e }) index (perms_at old.setup (runner old run) index) old.enclaves old.fences
-
-  abbrev after_break : PageBroken → WorldData
-  after_break broken = record old { ctl = broken.step.after.ctl; enclaves = broken.enclaves; fences = broken.fences }
-
-  -- a fault changes no record
-  records_stay : (g : Going) (place : Place) → (break_call g).step.outcome ≡ Fault place → (break_call g).enclaves ≡ old.enclaves
-  unfolding breaking.page_broken
-  records_stay g place is = ap (λ (o : Outcome (Unit {0})). if_put o (with_enclave old.enclaves run.e (with_own_page (enclave_at old.enclaves run.e) index)) old.enclaves) is
-
-  break_decided : (g : Going) (o : Outcome (Unit {0})) → (break_call g).step.outcome ≡ o
-      → decided (after_break (break_call g)) (break_goes run index (after_break (break_call g))) (run_faults run (after_break (break_call g))) o
-      ≡ decided (after_break (break_call g)) (λ done. breaks_done (after_break (break_call g)) run index) (faults run (runner old run) (after_break (break_call g))) o
-  break_decided g (Value done) is = refl
-  break_decided g (Fault place) is = ap (λ (all : List Enclave). faults run (enclave_at all run.e) (after_break (break_call g)) place) (records_stay g place is)
-  break_decided g (Collision place held written) is = refl
-  break_decided g (Again taken root) is = refl
-
-  -- a page was broken, and what that came to
-  pub break_event : (outcome : Outcome (Unit {0})) → IsPageBroken gives break_call old.ctl outcome mid.ctl mid.enclaves mid.fences
-      → mid ≡ record old { ctl = mid.ctl; enclaves = mid.enclaves; fences = mid.fences } → new ≡ decided mid (break_goes run index mid) (run_faults run mid) outcome
-      → IsEvent gives (λ positions. breaks_page digest_of old run (runner old run) positions index) new
-  break_event outcome step rest is = record {
-    positions = step.positions;
-    given = step.given;
-    is =
-        let broken : PageBroken = break_call (going old.ctl step.positions) in
-        let left : WorldData = after_break broken in
-        let same : mid ≡ left =
-        rest ∙ ap (λ (x : CtlData). record old { ctl = x; enclaves = mid.enclaves; fences = mid.fences }) step.now
-        ∙ ap (λ (all : List Enclave). record old { ctl = broken.step.after.ctl; enclaves = all; fences = mid.fences }) step.records_are
-        ∙ ap (λ (all : List (Option Fence)). record old { ctl = broken.step.after.ctl; enclaves = broken.enclaves; fences = all }) step.fences_are in
-        is ∙ ap (λ (w : WorldData). decided w (break_goes run index w) (run_faults run w) outcome) same
-        ∙ ap (λ (o : Outcome (Unit {0})). decided left (break_goes run index left) (run_faults run left) o) step.is
-        ∙ break_decided (going old.ctl step.positions) broken.step.outcome refl;
-  }
-
--- where that faults, the enclave may be left
-pub broke_leaves : (old new : WorldData) (run : RunNow) (done : Result (Unit {0}) Broken) → CanLeave old run → new ≡ record old { ctl = new.ctl; enclaves = new.enclaves; fences = new.fences }
-    → OnErr done (new.enclaves ≡ old.enclaves) → OnErr done (CanLeave new run)
-broke_leaves old new run (Ok done) can is same = tt
-broke_leaves old new run (Err broken) can is same =
-    subst (λ (w : WorldData). CanLeave w run) (sym is)
-    (subst (λ (all : List Enclave). CanLeave (record old { ctl = new.ctl; enclaves = all; fences = new.fences }) run) (sym same)
-    (record {
-      harts = record { harts = can.harts.harts; actors = record { actors = can.harts.actors.actors; few = can.harts.actors.few; room = can.harts.actors.room } };
-      number = can.number;
-      on = can.on;
-    }))

@@ -1,4 +1,2 @@
 pub mod AcknowledgingLemmas
-pub mod BreakLemmas
 pub mod EventLemmas
-pub mod RecordLemmas

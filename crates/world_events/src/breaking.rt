@@ -1,4 +1,4 @@
-// Where no page serves an access: the enclave traps, or, where a page that it shares would, that is broken (copy on write), and the instruction
+// What breaking a page takes (copy on write): which page of its image an access is to break, the copy with its fence, and the instruction that
 // starts anew once every other hart has acknowledged that.
 ghost use Rattle.std.specs.Prelude.{◌≡◌, ◌≤◌, ◌<◌, ◌↔◌, IsTrue, OnErr, length, slice_get};
 ghost use Rattle.std.specs.Fn.{FnReturnsAt};
@@ -8,15 +8,13 @@ ghost use Rattle.mem_slots.specs.Choices.{NamesPosition};
 ghost use Rattle.mon_enclave.specs.Records.{enclave_at};
 ghost use Rattle.mon_fence.specs.Fences.{fence_of};
 ghost use Rattle.mon_shadow.specs.Breaking.{IsPageBroken, page_broken};
-ghost use Rattle.world_events.specs.Conditions.{CanBreak, CanBreakAt, CanLeave, CanRestart};
-ghost use Rattle.world_events.specs.Events.{IsEvent};
-ghost use Rattle.world_events.specs.Running.{break_goes, run_faults, run_now, runner};
+ghost use Rattle.world_events.specs.Conditions.{CanBreakAt, CanRestart};
+ghost use Rattle.world_events.specs.Running.{run_now, runner};
 ghost use Rattle.world_events.specs.Turns.{IsTurn};
-ghost use Rattle.world_machine.specs.Answering.{decided};
 ghost use Rattle.world_machine.specs.HostMapping.{lacked_by};
 ghost use Rattle.world_machine.specs.Making.{image_of};
-ghost use Rattle.world_machine.specs.Pages.{fault_cause, page_for, shared_place, to_break};
-ghost use Rattle.world_machine.specs.Running.{breaks_or_leaves, breaks_page, page_faults, perms_at, restarts};
+ghost use Rattle.world_machine.specs.Pages.{page_for, shared_place, to_break};
+ghost use Rattle.world_machine.specs.Running.{perms_at, restarts};
 ghost use Rattle.world_machine.specs.Steps.{waiting_turn};
 
 use crate::machine::Machine;
@@ -27,22 +25,10 @@ use mem_slots::SlotUse;
 use mon_enclave::PageKind;
 use mon_image::ImagePage;
 use mon_shadow::break_page;
-use mon_tables::vpn_of_page;
-use pl_base::{EncNo, HartNo, IMAGE_START, Kind, PAGE_BYTES, Perms, Space, Why};
+use pl_base::{EncNo, HartNo, IMAGE_START, Kind, PAGE_BYTES, Perms};
 use pl_digest::Digester;
 use rv_hart::{Micro, Walk};
 use world_machine::{Turned, Under, Wait};
-
-/// The cause of the trap where no page lets an access through.
-fn fault_cause(kind: Kind) -> u8
-    ensures { result ≡ fault_cause kind }
-{
-    match kind {
-        Kind::Fetch => 12,
-        Kind::Load => 13,
-        Kind::Store => 15,
-    }
-}
 
 /// The place in the image of a page that an access would store to but for its being shared.
 fn shared_place(kind: Kind, page: PageKind, place: u32) -> Option<u32>
@@ -103,7 +89,7 @@ fn perms_in(image: &[ImagePage], index: u32) -> Perms
 
 impl<D: Digester, F> Machine<D, F> {
     /// The place in the image of the page that an access of a number is to break.
-    fn to_break(&self, e: EncNo, kind: Kind, address: u64) -> Option<u32>
+    pub fn to_break(&self, e: EncNo, kind: Kind, address: u64) -> Option<u32>
         requires number { e.0 < length self.now.0.enclaves }
         requires image { (enclave_at self.now.0.enclaves e.0).image < length self.now.0.setup.images }
         ensures { result ≡ to_break kind (image_of self.now.0.setup (enclave_at self.now.0.enclaves e.0).image).pages (enclave_at self.now.0.enclaves e.0).pages address }
@@ -130,32 +116,11 @@ impl<D: Digester, F> Machine<D, F> {
     }
 
     /// Whether a number has a spare.
-    fn has_spare(&self, e: EncNo) -> bool
+    pub fn has_spare(&self, e: EncNo) -> bool
         requires { e.0 < length self.now.0.enclaves }
         ensures { IsTrue result ↔ (0 < length (enclave_at self.now.0.enclaves e.0).spares) }
     {
         !self.enclaves.get(e).spares.as_slice().is_empty()
-    }
-
-    /// What the break of a page came to. The hart drops its own translation of the page at once.
-    fn broke(&mut self, run: Run, index: u32, done: Result<(), Broken>)
-        requires can { OnErr done (CanLeave self.old.0 (run_now run)) }
-        requires harts { run.hart.0 < length self.old.0.under }
-        requires tlbs { run.hart.0 < length self.old.0.tlbs }
-        ensures { self.new ≡ (decided self.old.0 (break_goes (run_now run) index self.old.0) (run_faults (run_now run) self.old.0) (outcome_of done), self.old.1) }
-    {
-        match done {
-            Ok(()) => {
-                self.drop_from(run.hart, Space::of_number(run.e), Some(vpn_of_page(index)));
-                let under = Under::Breaking {
-                    count: run.count,
-                    index,
-                };
-                self.go_on(run.hart, under);
-            }
-            Err(Broken::Fault(place)) => self.leave(run, run.count, Why::Fault(place)),
-            Err(Broken::Collision(collision)) => self.keep(collision),
-        }
     }
 
     /// The instruction starts anew, since nobody is lacking for the hart's fence, which it leaves.
@@ -175,7 +140,7 @@ impl<D: Digester, F> Machine<D, F> {
 
 impl<D: Digester, F: Fn(&[SlotUse]) -> usize> Machine<D, F> {
     /// The shared page is copied into the next spare, which takes its place, and the hart posts a fence of its address.
-    fn copy_page(&mut self, run: Run, index: u32) -> Result<(), Broken>
+    pub fn copy_page(&mut self, run: Run, index: u32) -> Result<(), Broken>
         requires can { CanBreakAt self.old.0 (run_now run) index }
         requires spare { 0 < length (runner self.old.0 (run_now run)).spares }
         requires choice { NamesPosition F.Fn self.old.1 }
@@ -197,46 +162,6 @@ impl<D: Digester, F: Fn(&[SlotUse]) -> usize> Machine<D, F> {
             index,
             perms,
         )
-    }
-
-    /// A page is broken, for which there is a spare.
-    fn break_page(&mut self, run: Run, index: u32)
-        requires can { CanBreakAt self.old.0 (run_now run) index }
-        requires spare { 0 < length (runner self.old.0 (run_now run)).spares }
-        requires choice { NamesPosition F.Fn self.old.1 }
-        ensures event { IsEvent (FnReturnsAt F.Fn self.old.1) (λ positions. breaks_page D.digest_of self.old.0 (run_now run) (runner self.old.0 (run_now run)) positions index) self.new.0 }
-        ensures choice { self.new.1 ≡ self.old.1 }
-    {
-        let done = self.copy_page(run, index);
-        self.broke(run, index, done);
-    }
-
-    /// A page is to be broken, which needs a spare.
-    fn break_or_leave(&mut self, run: Run, index: u32)
-        requires can { CanBreakAt self.old.0 (run_now run) index }
-        requires choice { NamesPosition F.Fn self.old.1 }
-        ensures event { IsEvent (FnReturnsAt F.Fn self.old.1) (λ positions. breaks_or_leaves D.digest_of self.old.0 (run_now run) (runner self.old.0 (run_now run)) positions index
-            (runner self.old.0 (run_now run)).spares) self.new.0 }
-        ensures choice { self.new.1 ≡ self.old.1 }
-    {
-        if self.has_spare(run.e) {
-            self.break_page(run, index);
-        } else {
-            self.leave(run, run.count, Why::NeedPage);
-        }
-    }
-
-    /// No page serves an access: a page that the enclave shares is broken, or the enclave traps.
-    pub(crate) fn page_fault(&mut self, run: Run, kind: Kind, address: u64)
-        requires can { CanBreak self.old.0 (run_now run) }
-        requires choice { NamesPosition F.Fn self.old.1 }
-        ensures event { IsEvent (FnReturnsAt F.Fn self.old.1) (λ positions. page_faults D.digest_of self.old.0 (run_now run) (runner self.old.0 (run_now run)) positions kind address) self.new.0 }
-        ensures choice { self.new.1 ≡ self.old.1 }
-    {
-        match self.to_break(run.e, kind, address) {
-            Some(index) => self.break_or_leave(run, index),
-            None => self.trap(run, fault_cause(kind), address),
-        }
     }
 
     /// The turn of a run that broke a page: it waits for the harts that have yet to acknowledge its fence.

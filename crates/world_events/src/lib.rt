@@ -1,8 +1,7 @@
-//! The machine's parts, and each event of an actor as a call that moves them, as plain data moves.
+//! The machine's parts, and each event of an actor but those of a run as a call that moves them, as plain data moves.
 #![tactic(auto)]
 
 mod acknowledging;
-mod acting;
 mod attacking;
 mod breaking;
 mod dues;
@@ -12,14 +11,13 @@ mod host_mapping;
 mod machine;
 mod making;
 mod opening;
-mod reaching;
 mod running;
 mod talking;
 mod tlbs;
 mod translating;
-mod walking;
 
 pub use dues::{Attack, Due};
 pub use host_accessing::WordAccess;
 pub use machine::Machine;
 pub use running::Run;
+pub use translating::{Request, offset_at, page_at};

@@ -158,7 +158,7 @@ impl<D: Digester, F> Machine<D, F> {
     }
 
     /// The registers of a number, and the address of its next instruction.
-    pub(crate) fn context(&self, e: EncNo) -> Context
+    pub fn context(&self, e: EncNo) -> Context
         requires { e.0 < length self.now.0.enclaves }
         ensures { result ≡ (enclave_at self.now.0.enclaves e.0).context }
     {
@@ -192,7 +192,7 @@ impl<D: Digester, F> Machine<D, F> {
     }
 
     /// A begun line goes on.
-    pub(crate) fn go_on(&mut self, hart: HartNo, under: Under)
+    pub fn go_on(&mut self, hart: HartNo, under: Under)
         requires { hart.0 < length self.old.0.under }
         ensures { self.new ≡ (goes_on self.old.0 hart.0 under, self.old.1) }
     {
@@ -242,7 +242,7 @@ impl<D: Digester, F> Machine<D, F> {
     }
 
     /// Keeps a collision; all else stays as it is.
-    pub(crate) fn keep(&mut self, collision: Collision)
+    pub fn keep(&mut self, collision: Collision)
         ensures { self.new ≡ (keeps_collision self.old.0 collision.place collision.held.items collision.written.items, self.old.1) }
     {
         self.collision = Some(collision);

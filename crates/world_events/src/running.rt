@@ -1,13 +1,15 @@
-// How `run` and `resume` begin, and how a run goes on or is left.
+// How `run` and `resume` begin, how the number goes on, and how a run is left.
 ghost use Rattle.std.specs.Prelude.{◌≡◌, ◌<◌, ◌-◌, ◌^◌, length};
 ghost use Rattle.mon_enclave.specs.Records.{enclave_at};
-ghost use Rattle.world_events.specs.Conditions.{CanGo, CanLeave, CanRun, with_record};
+ghost use Rattle.world_events.specs.Conditions.{CanGo, CanLeave, with_record};
 ghost use Rattle.world_events.specs.Running.{run_now};
-ghost use Rattle.world_machine.specs.Running.{begin_run, fetches_next, leaves, retired_with, retires, traps};
+ghost use Rattle.world_events.specs.Translating.{request_now};
+ghost use Rattle.world_machine.specs.Running.{begin_run, leaves, retired_with, run_request};
 
 use crate::machine::Machine;
+use crate::translating::{Request, number_view};
 use mon_life::run_begin;
-use pl_base::{EncNo, HartNo, Why};
+use pl_base::{EncNo, HartNo, Kind, Va, Why};
 use pl_digest::Digester;
 use pl_history::Answer;
 use rv_alone::Context;
@@ -40,20 +42,8 @@ impl<D: Digester, F> Machine<D, F> {
         self.begin_unless(hart, under, begun);
     }
 
-    /// The hart's next event is about the next instruction, after so many.
-    fn fetch_next(&mut self, run: Run, count: u32)
-        requires { run.hart.0 < length self.old.0.under }
-        ensures { self.new ≡ (fetches_next self.old.0 (run_now run) count, self.old.1) }
-    {
-        let under = Under::Running {
-            micro: Micro::Fetching(Walk::Start),
-            count,
-        };
-        self.go_on(run.hart, under);
-    }
-
     /// The run leaves its enclave, and shows all words that the enclave sent out.
-    pub(crate) fn leave(&mut self, run: Run, count: u32, why: Why)
+    pub fn leave(&mut self, run: Run, count: u32, why: Why)
         requires { CanLeave self.old.0 (run_now run) }
         ensures { self.new ≡ (leaves self.old.0 (run_now run) (enclave_at self.old.0.enclaves run.e.0) count why, self.old.1) }
     {
@@ -62,7 +52,7 @@ impl<D: Digester, F> Machine<D, F> {
     }
 
     /// One more instruction of a number is retired, and leaves this context.
-    pub(crate) fn set_context(&mut self, e: EncNo, context: Context)
+    pub fn set_context(&mut self, e: EncNo, context: Context)
         requires number { e.0 < length self.old.0.enclaves }
         requires count { (enclave_at self.old.0.enclaves e.0).retired < 2 ^ 64 - 1 }
         ensures { self.new ≡ (with_record self.old.0 e.0 (retired_with (enclave_at self.old.0.enclaves e.0) context), self.old.1) }
@@ -70,25 +60,15 @@ impl<D: Digester, F> Machine<D, F> {
         self.enclaves.retire(e, context);
     }
 
-    /// An instruction retires, and leaves this context.
-    pub(crate) fn retire(&mut self, run: Run, context: Context)
-        requires { CanRun self.old.0 (run_now run) }
-        ensures { self.new ≡ (retires self.old.0 (run_now run) (retired_with (enclave_at self.old.0.enclaves run.e.0) context), self.old.1) }
+    /// An access of an instruction as its hart translates it.
+    pub fn run_request(&self, run: Run, va: u64, kind: Kind) -> Request
+        ensures { request_now result ≡ run_request self.now.0 (run_now run) va kind }
     {
-        self.set_context(run.e, context);
-        let count = run.count + 1;
-        if count == run.budget {
-            self.leave(run, count, Why::Budget);
-        } else {
-            self.fetch_next(run, count);
+        Request {
+            hart: run.hart,
+            va: Va(va),
+            kind,
+            view: number_view(self.setup.parts().tables, run.e),
         }
-    }
-
-    /// The run leaves its enclave, since it traps.
-    pub(crate) fn trap(&mut self, run: Run, cause: u8, value: u64)
-        requires { CanLeave self.old.0 (run_now run) }
-        ensures { self.new ≡ (traps self.old.0 (run_now run) (enclave_at self.old.0.enclaves run.e.0) cause value, self.old.1) }
-    {
-        self.leave(run, run.count, Why::Trapped { cause, value });
     }
 }

@@ -1,7 +1,9 @@
-// How a hart translates an access: in which view it is made, what it asks for next, and what the word of a table teaches it.
-ghost use Rattle.std.specs.Prelude.{◌≡◌, ◌≤◌, ◌<◌, ◌*◌, ◌%◌, length};
+// How a hart translates an access: in which view it is made, what it asks for next, and what the word of a table teaches it; and how words
+// of pages are read and written through the trees.
+ghost use Rattle.std.specs.Prelude.{◌≡◌, ◌≤◌, ◌<◌, ◌*◌, ◌%◌, IsTrue, length};
 ghost use Rattle.std.specs.Fn.{FnReturnsAt};
-ghost use Rattle.mem_ctl.specs.Calls.{read_word_of};
+ghost use Rattle.pl_base.specs.Width.{is_width};
+ghost use Rattle.mem_ctl.specs.Calls.{read_word_of, write_part_of};
 ghost use Rattle.mem_ctl.specs.Results.{IsCall, outcome_of};
 ghost use Rattle.mem_slots.specs.Choices.{NamesPosition};
 ghost use Rattle.rv_hart.specs.Learning.{learned};
@@ -22,11 +24,11 @@ use rv_tlb::Tlb;
 
 /// An access that a hart translates.
 #[derive(Clone, Copy)]
-pub(crate) struct Request {
-    pub(crate) hart: HartNo,
-    pub(crate) va: Va,
-    pub(crate) kind: Kind,
-    pub(crate) view: View,
+pub struct Request {
+    pub hart: HartNo,
+    pub va: Va,
+    pub kind: Kind,
+    pub view: View,
 }
 
 /// The view of the host's accesses.
@@ -53,7 +55,7 @@ pub(crate) fn number_view(tables: u8, e: EncNo) -> View
 }
 
 /// The page of off-chip memory with a physical address.
-pub(crate) fn page_at(pa: Pa) -> u32
+pub fn page_at(pa: Pa) -> u32
     requires from { 0x80000000 ≤ pa.0 }
     requires small { page_at pa < 4096 }
     ensures { result ≡ page_at pa }
@@ -62,7 +64,7 @@ pub(crate) fn page_at(pa: Pa) -> u32
 }
 
 /// The offset in its page.
-pub(crate) fn offset_at(pa: Pa) -> u16
+pub fn offset_at(pa: Pa) -> u16
     ensures { result ≡ offset_at pa }
 {
     (pa.0 % PAGE_BYTES) as u16
@@ -78,7 +80,7 @@ impl<D: Digester, F> Machine<D, F> {
     }
 
     /// What a request asks for next, whose walk is so far.
-    pub(crate) fn sought(&self, request: Request, walk: Walk) -> Sought
+    pub fn sought(&self, request: Request, walk: Walk) -> Sought
         requires { CanSeek self.now.0 (request_now request) walk }
         ensures sought { result ≡ sought_in self.now.0 (request_now request) walk }
         ensures inside { AsksInside self.now.0.ctl.zones result }
@@ -93,12 +95,7 @@ impl<D: Digester, F> Machine<D, F> {
     }
 
     /// What the word of a table teaches the walk of a request.
-    pub(crate) fn learn(
-        &mut self,
-        request: Request,
-        walk: Walk,
-        word: u64,
-    ) -> Result<Walk, PageFault>
+    pub fn learn(&mut self, request: Request, walk: Walk, word: u64) -> Result<Walk, PageFault>
         requires { CanLearn self.old.0 (request_now request) walk }
         ensures learned { result ≡ learned walk word request.va request.kind request.view }
         ensures world { self.new ≡ (with_learned self.old.0 (request_now request) walk word, self.old.1) }
@@ -107,7 +104,7 @@ impl<D: Digester, F> Machine<D, F> {
     }
 
     /// A hart drops its translation of a page of a space, or those of the whole space.
-    pub(crate) fn drop_from(&mut self, hart: HartNo, space: Space, vpn: Option<Vpn>)
+    pub fn drop_from(&mut self, hart: HartNo, space: Space, vpn: Option<Vpn>)
         requires { hart.0 < length self.old.0.tlbs }
         ensures { self.new ≡ (with_tlb self.old.0 hart.0 (without_covered (tlb_at self.old.0.tlbs hart.0) space vpn), self.old.1) }
     {
@@ -117,7 +114,7 @@ impl<D: Digester, F> Machine<D, F> {
 
 impl<D: Digester, F: Fn(&[SlotUse]) -> usize> Machine<D, F> {
     /// The eight bytes of a page at an offset, read through the trees.
-    pub(crate) fn read(&mut self, page: u32, offset: u16) -> Result<u64, Broken>
+    pub fn read(&mut self, page: u32, offset: u16) -> Result<u64, Broken>
         requires page { page < 64 * self.old.0.ctl.zones }
         requires offset { offset < 4096 }
         requires aligned { offset % 8 ≡ 0 }
@@ -126,5 +123,18 @@ impl<D: Digester, F: Fn(&[SlotUse]) -> usize> Machine<D, F> {
         ensures rest { self.new ≡ (record self.old.0 { ctl = self.new.0.ctl }, self.old.1) }
     {
         self.ctl.read_word(page, offset)
+    }
+
+    /// Writes the lowest bytes of a value into a page through the trees.
+    pub fn write(&mut self, page: u32, offset: u16, width: u8, value: u64) -> Result<(), Broken>
+        requires page { page < 64 * self.old.0.ctl.zones }
+        requires offset { offset < 4096 }
+        requires width { IsTrue (is_width width) }
+        requires aligned { offset % width ≡ 0 }
+        requires choice { NamesPosition F.Fn self.old.1 }
+        ensures call { IsCall (FnReturnsAt F.Fn self.old.1) (write_part_of D.digest_of page offset width value) self.old.0.ctl (outcome_of result) self.new.0.ctl }
+        ensures rest { self.new ≡ (record self.old.0 { ctl = self.new.0.ctl }, self.old.1) }
+    {
+        self.ctl.write_part(page, offset, width, value)
     }
 }

@@ -1,0 +1,2 @@
+mod BreakLemmas
+mod RecordLemmas
