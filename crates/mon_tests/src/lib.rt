@@ -20,6 +20,8 @@ mod life_tests;
 #[cfg(test)]
 mod owner_tests;
 #[cfg(test)]
+mod owners;
+#[cfg(test)]
 mod shadow_tests;
 #[cfg(test)]
 mod tables_tests;

@@ -5,6 +5,7 @@ ghost use Rattle.mon_life.specs.Destroying.{held_by};
 
 use crate::entries::entries;
 use crate::images;
+use crate::owners::{has_owner, map_once};
 use crate::zone::{oldest, words, write, zone};
 use mem_ctl::Ctl;
 use mem_slots::Choice;
@@ -29,9 +30,7 @@ fn image(rt: &impl Abort, alloc: Global, count: usize) -> Result<Image, AllocErr
 // The owners of 64 pages, nine of them guarded; page 20 is mapped once.
 fn owners(alloc: Global) -> Result<Owners, Fail> {
     let mut owners = Owners::new(alloc, 9, 64)?;
-    if let Some(Owner::Host { maps: 0 }) = owners.of(20) {
-        owners.add_map(20);
-    }
+    map_once(&mut owners, 20);
     Ok(owners)
 }
 
@@ -117,9 +116,9 @@ fn numbers_are_begun_or_refused_in_order(rt: HostRuntime) -> Result<(), Fail> {
         let answer = begin(&rt, &mut owners, &mut enclaves, &pmp, begun);
         assert_eq!(rt; answer, want, "{pages:?}");
     }
-    assert_eq!(rt; owners.of(63), Some(Owner::Enclave(EncNo(0))));
-    assert_eq!(rt; owners.of(22), Some(Owner::Shadow(EncNo(1))));
-    assert_eq!(rt; owners.of(21), Some(Owner::Host { maps: 0 }));
+    has_owner(&rt, &owners, 63, Some(Owner::Enclave(EncNo(0))));
+    has_owner(&rt, &owners, 22, Some(Owner::Shadow(EncNo(1))));
+    has_owner(&rt, &owners, 21, Some(Owner::Host { maps: 0 }));
     Ok(())
 }
 
@@ -217,9 +216,9 @@ fn its_pages_are_zeroed_pages_of_the_host(rt: HostRuntime) -> Result<(), Fail> {
     write(&mut ctl, 63);
     end(&mut ctl, &mut owners, &mut enclaves);
     assert_eq!(rt; words(&ctl), [0, 9, 0]);
-    assert_eq!(rt; owners.of(21), Some(Owner::Host { maps: 0 }));
-    assert_eq!(rt; owners.of(22), Some(Owner::Enclave(EncNo(0))));
-    assert_eq!(rt; owners.of(63), Some(Owner::Host { maps: 0 }));
+    has_owner(&rt, &owners, 21, Some(Owner::Host { maps: 0 }));
+    has_owner(&rt, &owners, 22, Some(Owner::Enclave(EncNo(0))));
+    has_owner(&rt, &owners, 63, Some(Owner::Host { maps: 0 }));
     assert_eq!(rt; enclaves.get(EncNo(0)).state, State::Free);
     Ok(())
 }

@@ -4,6 +4,7 @@ ghost use Rattle.mem_slots.specs.Choices.{NamesPosition};
 
 use crate::entries::entries;
 use crate::images::image;
+use crate::owners::{has_owner, map_once};
 use crate::zone::{oldest, words, write, zone};
 use mem_ctl::Ctl;
 use mem_slots::Choice;
@@ -87,9 +88,7 @@ fn answer(
 #[test]
 fn forks_and_grants_are_refused_in_order(rt: HostRuntime) -> Result<(), Fail> {
     let mut owners = owners(rt.alloc())?;
-    if let Some(Owner::Host { maps: 0 }) = owners.of(20) {
-        owners.add_map(20);
-    }
+    map_once(&mut owners, 20);
     let mut enclaves = numbers(&rt, rt.alloc())?;
     let pmp = entries(&rt);
     for (line, want) in [
@@ -113,9 +112,9 @@ fn forks_and_grants_are_refused_in_order(rt: HostRuntime) -> Result<(), Fail> {
         let got = answer(&rt, &mut owners, &mut enclaves, &pmp, line);
         assert_eq!(rt; got, want, "{line:?}");
     }
-    assert_eq!(rt; owners.of(9), Some(Owner::Enclave(FORK)));
-    assert_eq!(rt; owners.of(23), Some(Owner::Enclave(FORK)));
-    assert_eq!(rt; owners.of(22), Some(Owner::Shadow(SHADOW)));
+    has_owner(&rt, &owners, 9, Some(Owner::Enclave(FORK)));
+    has_owner(&rt, &owners, 23, Some(Owner::Enclave(FORK)));
+    has_owner(&rt, &owners, 22, Some(Owner::Shadow(SHADOW)));
     Ok(())
 }
 
@@ -168,8 +167,8 @@ fn a_shadow_is_given_back_after_its_forks(rt: HostRuntime) -> Result<(), Fail> {
     let given = give_back(&rt, &mut ctl, &mut owners, &mut enclaves, SHADOW);
     assert_eq!(rt; given, Ok(()));
     assert_eq!(rt; words(&ctl), [9, 0, 0]);
-    assert_eq!(rt; owners.of(22), Some(Owner::Host { maps: 0 }));
-    assert_eq!(rt; owners.of(63), Some(Owner::Host { maps: 0 }));
+    has_owner(&rt, &owners, 22, Some(Owner::Host { maps: 0 }));
+    has_owner(&rt, &owners, 63, Some(Owner::Host { maps: 0 }));
     assert!(rt; 0 < enclaves.len());
     assert_eq!(rt; enclaves.get(SHADOW).state, State::Free);
     Ok(())
