@@ -9,6 +9,3 @@ mod forks;
 pub use bounded::Bounded;
 pub use enclave::{Enclave, PageKind};
 pub use enclaves::Enclaves;
-
-#[cfg(test)]
-mod tests;

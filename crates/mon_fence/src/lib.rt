@@ -9,6 +9,3 @@ mod laws;
 
 pub use fences::{Fence, Fences};
 pub use laws::fences_need_others;
-
-#[cfg(test)]
-mod tests;

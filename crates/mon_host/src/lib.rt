@@ -11,6 +11,3 @@ mod unmapping;
 pub use laws::{maps_tell, spaces_have_leaves, starts_in_empty_space, unmaps_tell};
 pub use mapping::map;
 pub use unmapping::{unmap_begin, unmap_end};
-
-#[cfg(test)]
-mod tests;

@@ -7,6 +7,3 @@ mod page;
 
 pub use image::{Image, ImagePages};
 pub use page::{ImagePage, PageBytes};
-
-#[cfg(test)]
-mod tests;

@@ -18,6 +18,3 @@ pub use laws::{
 pub use making::{create_begin, first_twice, page_refusal, taker};
 pub use putting::create_step;
 pub use running::run_begin;
-
-#[cfg(test)]
-mod tests;

@@ -6,6 +6,3 @@
 mod owners;
 
 pub use owners::{Owner, Owners};
-
-#[cfg(test)]
-mod tests;

@@ -17,8 +17,3 @@ pub use dropping::drop_shadow;
 pub use forking::fork_begin;
 pub use granting::grant;
 pub use laws::{forks_are_refused, forks_share_pages, shadows_are_given_back};
-
-#[cfg(test)]
-mod break_tests;
-#[cfg(test)]
-mod tests;

@@ -10,6 +10,3 @@ pub use host_tables::{host_slot, root_of, start_words};
 pub use laws::{host_tables_walk, number_tables_walk};
 pub use number_tables::{Leaf, number_slot, table_number, table_page, vpn_of_page};
 pub use words::leaf_word;
-
-#[cfg(test)]
-mod tests;

@@ -3,7 +3,7 @@ use Rattle.mem_ctl.specs.Data.{CtlData, going}
 use Rattle.mon_enclave.specs.declared.enclave.Enclave.{Enclave}
 use Rattle.mon_enclave.specs.Records.{enclave_at, next_spare}
 use Rattle.mon_shadow.specs.Breaking.{page_broken, page_number_at}
-use Rattle.mon_shadow.proofs.break_tests.break_first.Goals as goal
+use Rattle.mon_tests.proofs.break_tests.break_first.Goals as goal
 
 pub returns : goal.returns
 unfolding page_broken

@@ -1,7 +1,7 @@
 use Rattle.std.proofs.Common.{List, ℕ, refl, subst, sym, arith}
 use Rattle.mem_ctl.specs.Data.{going}
 use Rattle.mon_host.specs.Unmapping.{HaveHostLeaves}
-use Rattle.mon_host.proofs.tests.map_page.Goals as goal
+use Rattle.mon_tests.proofs.host_tests.map_page.Goals as goal
 
 pub returns-clause-leaves : goal.returns-clause-leaves
 returns-clause-leaves g c =

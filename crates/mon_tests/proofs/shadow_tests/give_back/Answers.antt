@@ -1,6 +1,6 @@
 use Rattle.std.proofs.Common.{length, ap, ◌∙◌}
 use Rattle.mon_shadow.proofs.DropLemmas.{as_many_pages, as_many_zones}
-use Rattle.mon_shadow.proofs.tests.give_back.Goals as goal
+use Rattle.mon_tests.proofs.shadow_tests.give_back.Goals as goal
 
 pub returns-clause-zone : goal.returns-clause-zone
 returns-clause-zone g c =

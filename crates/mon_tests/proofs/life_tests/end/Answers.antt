@@ -3,7 +3,7 @@ use Rattle.mem_ctl.specs.Data.{CtlData}
 use Rattle.mon_enclave.specs.Records.{enclave_at, freed}
 use Rattle.mon_life.specs.Destroying.{destroy_ended, held_by}
 use Rattle.mon_life.proofs.GivenBack.{off_chip_alone}
-use Rattle.mon_life.proofs.tests.end.Goals as goal
+use Rattle.mon_tests.proofs.life_tests.end.Goals as goal
 
 pub returns-clause-zone : goal.returns-clause-zone
 unfolding destroy_ended

@@ -1,5 +1,5 @@
 // Fences of several harts, each call once.
-use crate::Fences;
+use mon_fence::Fences;
 use pl_base::{HartNo, HartSet, Space, Vpn};
 
 #[test]

@@ -2,7 +2,7 @@ use Rattle.std.proofs.Common.{◌≡◌, ◌*◌, [], ap, subst, sym, ◌∙◌,
 use Rattle.std.proofs.lemmas.List.Elements.{All-nil}
 use Rattle.mem_ctl.specs.Start.{HasWords}
 use Rattle.mon_tables.specs.Tables.{start_words}
-use Rattle.mon_host.proofs.tests.start.Goals as goal
+use Rattle.mon_tests.proofs.host_tests.start.Goals as goal
 
 pub returns-clause-leaves : goal.returns-clause-leaves
 returns-clause-leaves g c =

@@ -1,9 +1,7 @@
 // Known measurements.
-ghost use Rattle.std.specs.Prelude.{◌≤◌, length};
-
-use crate::{Image, ImagePage, ImagePages, PageBytes};
+use crate::images::page;
+use mon_image::{Image, ImagePages};
 use pl_base::Perms;
-use std::alloc::{AllocError, Global};
 use std::test::Fail;
 
 // By Python's hashlib.
@@ -16,18 +14,6 @@ const THREE_PAGES: [u8; 32] = [
     0xc3, 0xce, 0x8e, 0x79, 0x12, 0x8e, 0x46, 0x40, 0x07, 0xf9, 0xb9, 0x62, 0x18, 0x8f, 0xc0, 0x0a,
     0x42, 0xed, 0xc5, 0x5b, 0x7e, 0xd9, 0x29, 0xfc, 0xa0, 0x77, 0x69, 0x8f, 0x7a, 0x7a, 0xea, 0x2c,
 ];
-
-// A page that begins with these bytes and is then zero.
-fn page(alloc: Global, perms: Perms, front: &[u8]) -> Result<ImagePage, AllocError>
-    requires { length front.now ≤ 4096 }
-{
-    let mut bytes = vec![in alloc; 0u8; 4096]?;
-    bytes[..front.len()].copy_from_slice(front);
-    Ok(ImagePage {
-        perms,
-        bytes: PageBytes::new(bytes),
-    })
-}
 
 #[test]
 fn measurements_are_those_of_a_plain_program(rt: HostRuntime) -> Result<(), Fail> {

@@ -2,17 +2,20 @@
 ghost use Rattle.std.specs.Prelude.{◌≡◌, ◌<◌, IfOk, length};
 ghost use Rattle.mem_slots.specs.Choices.{NamesPosition};
 
-use crate::{drop_shadow, fork_begin, grant};
+use crate::entries::entries;
+use crate::images::image;
+use crate::owners::{has_owner, map_once};
+use crate::zone::{oldest, words, write, zone};
 use mem_ctl::Ctl;
-use mem_slots::{Choice, SlotUse, first_mounted};
+use mem_slots::Choice;
 use mon_enclave::Enclaves;
-use mon_image::{Image, ImagePage, ImagePages, PageBytes};
 use mon_life::held_by;
 use mon_owner::{Owner, Owners};
+use mon_shadow::{drop_shadow, fork_begin, grant};
 use pl_base::{EncNo, HartNo, Memory, No, Perms, State};
 use pl_digest::OneByte;
-use rv_pmp::{Pmp, Rule};
-use std::alloc::{AllocError, Global};
+use rv_pmp::Pmp;
+use std::alloc::Global;
 use std::process::Abort;
 use std::test::Fail;
 
@@ -30,41 +33,9 @@ enum Line {
     Is(u8, State),
 }
 
-// The entries of one zone with nine guarded pages, in which the rule of entry 2 bars writing in page 21.
-fn entries(rt: &impl Abort) -> Pmp {
-    let mut rules = [Rule::default(); 16];
-    for (i, cfg, addr) in [
-        (0usize, 0u8, 0x2000_0000u64),
-        (1, 0x09, 0x2000_2400),
-        (2, 0x19, 0x2000_55ff),
-        (13, 0, 0x2000_0000),
-        (14, 0x0f, 0x2001_0000),
-    ] {
-        rules[i] = Rule { cfg, addr };
-    }
-    assert!(rt; rules.iter().all(|rule| rule.valid()));
-    Pmp::new(rules)
-}
-
-// An image of two pages.
-fn image(alloc: Global) -> Result<Image, AllocError> {
-    let code = ImagePage {
-        perms: Perms(5),
-        bytes: PageBytes::new(vec![in alloc; 0u8; 4096]?),
-    };
-    let data = ImagePage {
-        perms: Perms(3),
-        bytes: PageBytes::new(vec![in alloc; 0u8; 4096]?),
-    };
-    Ok(Image {
-        entry: 0x10000,
-        pages: ImagePages::new(Vec::from_array(alloc, [code, data])?),
-    })
-}
-
 // Three numbers, of which number 0 is a shadow in pages 22 and 63.
 fn numbers(rt: &impl Abort, alloc: Global) -> Result<Enclaves, Fail> {
-    let image = image(alloc)?;
+    let image = image(rt, alloc, 0x10000, &[Perms(5), Perms(3)])?;
     assert!(rt; image.pages.as_slice().len() == 2);
     let mut enclaves = Enclaves::new(alloc, 3)?;
     enclaves.build(SHADOW, 7, &image, &[22, 63]);
@@ -117,9 +88,7 @@ fn answer(
 #[test]
 fn forks_and_grants_are_refused_in_order(rt: HostRuntime) -> Result<(), Fail> {
     let mut owners = owners(rt.alloc())?;
-    if let Some(Owner::Host { maps: 0 }) = owners.of(20) {
-        owners.add_map(20);
-    }
+    map_once(&mut owners, 20);
     let mut enclaves = numbers(&rt, rt.alloc())?;
     let pmp = entries(&rt);
     for (line, want) in [
@@ -143,42 +112,10 @@ fn forks_and_grants_are_refused_in_order(rt: HostRuntime) -> Result<(), Fail> {
         let got = answer(&rt, &mut owners, &mut enclaves, &pmp, line);
         assert_eq!(rt; got, want, "{line:?}");
     }
-    assert_eq!(rt; owners.of(9), Some(Owner::Enclave(FORK)));
-    assert_eq!(rt; owners.of(23), Some(Owner::Enclave(FORK)));
-    assert_eq!(rt; owners.of(22), Some(Owner::Shadow(SHADOW)));
+    has_owner(&rt, &owners, 9, Some(Owner::Enclave(FORK)));
+    has_owner(&rt, &owners, 23, Some(Owner::Enclave(FORK)));
+    has_owner(&rt, &owners, 22, Some(Owner::Shadow(SHADOW)));
     Ok(())
-}
-
-// One zone, with nothing in it.
-fn zone<F: Fn(&[SlotUse]) -> usize>(
-    alloc: Global,
-    choice: Choice<F>,
-) -> Result<Ctl<OneByte, F>, Memory>
-    requires { NamesPosition F.Fn choice }
-    ensures { IfOk result (λ ctl. ctl.0.zones ≡ 1) }
-{
-    let ctl = Ctl::new(alloc, OneByte, 1, 1, &[], choice)?;
-    Ok(ctl)
-}
-
-// A word is written at the end of a page.
-fn write<F>(ctl: &mut Ctl<OneByte, F>, page: u32)
-    requires zone { ctl.old.0.zones ≡ 1 }
-    requires page { page < 64 }
-    ensures { ctl.new.0.zones ≡ 1 }
-{
-    ctl.raw_write(page, 4088, 9);
-}
-
-// The words at the end of three pages.
-fn words<F>(ctl: &Ctl<OneByte, F>) -> [u64; 3]
-    requires { ctl.now.0.zones ≡ 1 }
-{
-    [
-        ctl.raw_read(21, 4088),
-        ctl.raw_read(22, 4088),
-        ctl.raw_read(63, 4088),
-    ]
 }
 
 // Number 1 is a fork of the shadow, with no spare.
@@ -214,8 +151,7 @@ fn give_back<F>(
 
 #[test]
 fn a_shadow_is_given_back_after_its_forks(rt: HostRuntime) -> Result<(), Fail> {
-    let oldest = Choice::new(|slots: &[SlotUse]| first_mounted(slots));
-    let mut ctl = zone(rt.alloc(), oldest)?;
+    let mut ctl = zone(rt.alloc(), Choice::new(oldest))?;
     let mut owners = owners(rt.alloc())?;
     let mut enclaves = numbers(&rt, rt.alloc())?;
     write(&mut ctl, 21);
@@ -231,8 +167,8 @@ fn a_shadow_is_given_back_after_its_forks(rt: HostRuntime) -> Result<(), Fail> {
     let given = give_back(&rt, &mut ctl, &mut owners, &mut enclaves, SHADOW);
     assert_eq!(rt; given, Ok(()));
     assert_eq!(rt; words(&ctl), [9, 0, 0]);
-    assert_eq!(rt; owners.of(22), Some(Owner::Host { maps: 0 }));
-    assert_eq!(rt; owners.of(63), Some(Owner::Host { maps: 0 }));
+    has_owner(&rt, &owners, 22, Some(Owner::Host { maps: 0 }));
+    has_owner(&rt, &owners, 63, Some(Owner::Host { maps: 0 }));
     assert!(rt; 0 < enclaves.len());
     assert_eq!(rt; enclaves.get(SHADOW).state, State::Free);
     Ok(())

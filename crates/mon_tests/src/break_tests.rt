@@ -5,32 +5,20 @@ ghost use Rattle.mon_enclave.specs.Records.{enclave_at};
 ghost use Rattle.mon_enclave.specs.declared.enclave.PageKind.TheVariants.{Shared};
 ghost use Rattle.mon_fence.specs.Fences.{fence_of};
 
-use crate::{break_page, breaks_tell};
+use crate::images::image;
+use crate::zone::{oldest, zone};
 use mem_ctl::{Broken, Ctl};
-use mem_slots::{Choice, SlotUse, first_mounted};
+use mem_slots::{Choice, SlotUse};
 use mon_enclave::Enclaves;
 use mon_fence::Fences;
-use mon_image::{Image, ImagePage, ImagePages, PageBytes};
+use mon_shadow::{break_page, breaks_tell};
 use pl_base::{EncNo, HartNo, Memory, Perms, Space, State, Vpn};
 use pl_digest::{Digester, OneByte};
-use std::alloc::{AllocError, Global};
+use std::alloc::Global;
 use std::process::Abort;
 use std::test::Fail;
 
 const READ_WRITE: Perms = Perms(3);
-
-// One zone, with nothing in it.
-fn zone<F: Fn(&[SlotUse]) -> usize>(
-    alloc: Global,
-    choice: Choice<F>,
-) -> Result<Ctl<OneByte, F>, Memory>
-    requires { NamesPosition F.Fn choice }
-    ensures zone { IfOk result (λ ctl. ctl.0.zones ≡ 1) }
-    ensures choice { IfOk result (λ ctl. NamesPosition F.Fn ctl.1) }
-{
-    let ctl = Ctl::new(alloc, OneByte, 1, 1, &[], choice)?;
-    Ok(ctl)
-}
 
 // A word is written into page 20.
 fn write<F: Fn(&[SlotUse]) -> usize>(ctl: &mut Ctl<OneByte, F>) -> Result<(), Broken>
@@ -42,27 +30,13 @@ fn write<F: Fn(&[SlotUse]) -> usize>(ctl: &mut Ctl<OneByte, F>) -> Result<(), Br
     ctl.write_part(20, 8, 8, 9)
 }
 
-// An image of one page.
-fn image(rt: &impl Abort, alloc: Global) -> Result<Image, AllocError> {
-    let mut pages = Vec::new(alloc);
-    pages.push(ImagePage {
-        perms: READ_WRITE,
-        bytes: PageBytes::new(vec![in alloc; 0u8; 4096]?),
-    })?;
-    assert!(rt; pages.len() == 1);
-    Ok(Image {
-        entry: 0x10000,
-        pages: ImagePages::new(pages),
-    })
-}
-
 // Number 0 is a shadow in page 20, and number 1 its fork, with page 21 as a spare.
 fn forked(rt: &impl Abort, alloc: Global) -> Result<Enclaves, Fail>
     ensures two { IfOk result (λ all. length all ≡ 2) }
     ensures pages { IfOk result (λ all. (enclave_at all 1).pages ≡ Shared 20 ∷ []) }
     ensures spares { IfOk result (λ all. (enclave_at all 1).spares ≡ 21 ∷ []) }
 {
-    let image = image(rt, alloc)?;
+    let image = image(rt, alloc, 0x10000, &[READ_WRITE])?;
     assert!(rt; image.pages.as_slice().len() == 1);
     let mut enclaves = Enclaves::new(alloc, 2)?;
     enclaves.build(EncNo(0), 7, &image, &[20]);
@@ -94,8 +68,7 @@ fn break_first<D: Digester, F: Fn(&[SlotUse]) -> usize>(
 // Number 1's leaf of page 0 stands in page 8, at word 16.
 #[test]
 fn a_page_is_broken_under_a_fence(rt: HostRuntime) -> Result<(), Fail> {
-    let oldest = Choice::new(|slots: &[SlotUse]| first_mounted(slots));
-    let mut ctl = zone(rt.alloc(), oldest)?;
+    let mut ctl = zone(rt.alloc(), Choice::new(oldest))?;
     let mut enclaves = forked(&rt, rt.alloc())?;
     let mut fences = Fences::new(2);
     assert_eq!(rt; write(&mut ctl), Ok(()));

@@ -1,8 +1,9 @@
 // Records that were worked out by hand.
-use crate::{Enclaves, PageKind};
-use mon_image::{Image, ImagePage, ImagePages, PageBytes};
+use crate::images::image;
+use mon_enclave::{Enclaves, PageKind};
+use mon_image::Image;
 use pl_base::{EncNo, HartNo, No, Perms, State, Why};
-use std::alloc::{AllocError, Global};
+use std::alloc::Global;
 use std::process::Abort;
 use std::test::Fail;
 
@@ -25,22 +26,6 @@ enum Call {
     Left(Why),
     Take,
     Free,
-}
-
-// An image of two pages.
-fn image(alloc: Global) -> Result<Image, AllocError> {
-    let code = ImagePage {
-        perms: Perms(5),
-        bytes: PageBytes::new(vec![in alloc; 0u8; 4096]?),
-    };
-    let data = ImagePage {
-        perms: Perms(3),
-        bytes: PageBytes::new(vec![in alloc; 0u8; 4096]?),
-    };
-    Ok(Image {
-        entry: 0x10008,
-        pages: ImagePages::new(Vec::from_array(alloc, [code, data])?),
-    })
 }
 
 fn build(rt: &impl Abort, enclaves: &mut Enclaves, image: &Image) {
@@ -144,6 +129,50 @@ fn record(rt: &impl Abort, alloc: Global, enclaves: &Enclaves, e: u8) -> Result<
     )?)
 }
 
+// The record of a number is this one.
+fn is_record(
+    rt: &impl Abort,
+    alloc: Global,
+    enclaves: &Enclaves,
+    e: u8,
+    want: &str,
+) -> Result<(), Fail> {
+    assert_eq!(rt; record(rt, alloc, enclaves, e)?.as_str(), want);
+    Ok(())
+}
+
+// A call answers `want`.
+fn answers(
+    rt: &impl Abort,
+    enclaves: &mut Enclaves,
+    image: &Image,
+    call: Call,
+    want: Result<Option<u64>, No>,
+) {
+    assert_eq!(rt; answer(rt, enclaves, image, call), want, "{call:?}");
+}
+
+// A call answers `want`, and number 1 has this record then; where none is given, the one that it had.
+fn step(
+    rt: &impl Abort,
+    alloc: Global,
+    enclaves: &mut Enclaves,
+    image: &Image,
+    call: Call,
+    want: Result<Option<u64>, No>,
+    after: &str,
+) -> Result<(), Fail> {
+    let before = record(rt, alloc, enclaves, 1)?;
+    answers(rt, enclaves, image, call, want);
+    let now = record(rt, alloc, enclaves, 1)?;
+    if after.is_empty() {
+        assert_eq!(rt; now, before, "{call:?}");
+    } else {
+        assert_eq!(rt; now, format!(in alloc; "{after} {OWN}")?, "{call:?}");
+    }
+    Ok(())
+}
+
 const FREE: &str =
     "Free on 0 pc 0 x2 0 retired 0 sent [] 0 out [] 0 0 image 0 pages [] spares [] of 0 parent None";
 
@@ -161,9 +190,9 @@ const OWN: &str = "image 3 pages [Own(9), Own(4)] spares [] of 0 parent None";
 #[test]
 fn a_number_from_free_to_built_again(rt: HostRuntime) -> Result<(), Fail> {
     let alloc = rt.alloc();
-    let image = image(alloc)?;
+    let image = image(&rt, alloc, 0x10008, &[Perms(5), Perms(3)])?;
     let mut enclaves = Enclaves::new(alloc, 2)?;
-    assert_eq!(rt; record(&rt, alloc, &enclaves, 1)?.as_str(), FREE);
+    is_record(&rt, alloc, &enclaves, 1, FREE)?;
     for (call, want, after) in [
         (Call::Send(5), Err(No::NoEnclave), ""),
         (
@@ -236,70 +265,51 @@ fn a_number_from_free_to_built_again(rt: HostRuntime) -> Result<(), Fail> {
             "Paused on 2 pc 1000c x2 12000 retired 1 sent [5, 8] 2 out [6, 7] 2 2",
         ),
     ] {
-        let before = record(&rt, alloc, &enclaves, 1)?;
-        assert_eq!(rt; answer(&rt, &mut enclaves, &image, call), want, "{call:?}");
-        let now = record(&rt, alloc, &enclaves, 1)?;
-        if after.is_empty() {
-            assert_eq!(rt; now, before, "{call:?}");
-        } else {
-            assert_eq!(rt; now, format!(in alloc; "{after} {OWN}")?, "{call:?}");
-        }
+        step(&rt, alloc, &mut enclaves, &image, call, want, after)?;
     }
-    assert_eq!(rt; answer(&rt, &mut enclaves, &image, Call::Free), Ok(None));
-    assert_eq!(rt; record(&rt, alloc, &enclaves, 1)?.as_str(), FREED);
-    assert_eq!(rt; answer(&rt, &mut enclaves, &image, Call::Build), Ok(None));
-    assert_eq!(rt;
-        record(&rt, alloc, &enclaves, 1)?,
-        format!(in alloc; "Building on 2 pc 10008 x2 12000 retired 0 sent [] 0 out [] 0 0 {OWN}")?
-    );
-    assert_eq!(rt; record(&rt, alloc, &enclaves, 0)?.as_str(), FREE);
-    Ok(())
+    answers(&rt, &mut enclaves, &image, Call::Free, Ok(None));
+    is_record(&rt, alloc, &enclaves, 1, FREED)?;
+    let again = "Building on 2 pc 10008 x2 12000 retired 0 sent [] 0 out [] 0 0";
+    step(
+        &rt,
+        alloc,
+        &mut enclaves,
+        &image,
+        Call::Build,
+        Ok(None),
+        again,
+    )?;
+    is_record(&rt, alloc, &enclaves, 0, FREE)
 }
 
 #[test]
 fn a_fork_shares_its_pages_until_they_are_broken(rt: HostRuntime) -> Result<(), Fail> {
     let alloc = rt.alloc();
-    let image = image(alloc)?;
+    let image = image(&rt, alloc, 0x10008, &[Perms(5), Perms(3)])?;
     let mut enclaves = Enclaves::new(alloc, 3)?;
     build(&rt, &mut enclaves, &image);
     fork(&rt, &mut enclaves);
-    let forked = record(&rt, alloc, &enclaves, 2)?;
-    assert_eq!(rt; forked.as_str(), FORKED);
+    is_record(&rt, alloc, &enclaves, 2, FORKED)?;
     add_spare(&rt, &mut enclaves, 8);
     assert_eq!(rt; own_page(&rt, &mut enclaves), 20);
-    let broken = record(&rt, alloc, &enclaves, 2)?;
-    assert_eq!(rt; broken.as_str(), BROKEN);
-    Ok(())
+    is_record(&rt, alloc, &enclaves, 2, BROKEN)
 }
 
 #[test]
 fn no_more_than_4096_words_go_in_or_out(rt: HostRuntime) -> Result<(), Fail> {
     let alloc = rt.alloc();
-    let image = image(alloc)?;
+    let image = image(&rt, alloc, 0x10008, &[Perms(5), Perms(3)])?;
     let mut enclaves = Enclaves::new(alloc, 2)?;
-    assert_eq!(rt; answer(&rt, &mut enclaves, &image, Call::Build), Ok(None));
-    assert_eq!(rt;
-        answer(&rt, &mut enclaves, &image, Call::SetState(State::On)),
-        Ok(None)
-    );
+    let on = Call::SetState(State::On);
+    answers(&rt, &mut enclaves, &image, Call::Build, Ok(None));
+    answers(&rt, &mut enclaves, &image, on, Ok(None));
     for word in 0..4096 {
-        assert_eq!(rt;
-            answer(&rt, &mut enclaves, &image, Call::Send(word)),
-            Ok(None)
-        );
-        assert_eq!(rt;
-            answer(&rt, &mut enclaves, &image, Call::SendOut(word)),
-            Ok(Some(word))
-        );
+        let out = Call::SendOut(word);
+        answers(&rt, &mut enclaves, &image, Call::Send(word), Ok(None));
+        answers(&rt, &mut enclaves, &image, out, Ok(Some(word)));
     }
-    assert_eq!(rt;
-        answer(&rt, &mut enclaves, &image, Call::Send(1)),
-        Err(No::Full)
-    );
-    assert_eq!(rt;
-        answer(&rt, &mut enclaves, &image, Call::SendOut(1)),
-        Ok(None)
-    );
+    answers(&rt, &mut enclaves, &image, Call::Send(1), Err(No::Full));
+    answers(&rt, &mut enclaves, &image, Call::SendOut(1), Ok(None));
     Ok(())
 }
 
@@ -308,7 +318,7 @@ fn sixty_four_numbers_are_free(rt: HostRuntime) -> Result<(), Fail> {
     let enclaves = Enclaves::new(rt.alloc(), 64)?;
     assert_eq!(rt; enclaves.len(), 64);
     for e in 0..64 {
-        assert_eq!(rt; record(&rt, rt.alloc(), &enclaves, e)?.as_str(), FREE);
+        is_record(&rt, rt.alloc(), &enclaves, e, FREE)?;
     }
     assert_eq!(rt;
         (PageKind::Own(9).page(), PageKind::Shared(4).page()),

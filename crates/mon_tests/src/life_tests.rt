@@ -3,59 +3,34 @@ ghost use Rattle.std.specs.Prelude.{◌≡◌, ◌<◌, [], ◌∷◌, IfOk, len
 ghost use Rattle.mem_slots.specs.Choices.{NamesPosition};
 ghost use Rattle.mon_life.specs.Destroying.{held_by};
 
-use crate::{create_begin, destroy_begin, destroy_end, run_begin};
+use crate::entries::entries;
+use crate::images;
+use crate::owners::{has_owner, map_once};
+use crate::zone::{oldest, words, write, zone};
 use mem_ctl::Ctl;
-use mem_slots::{Choice, SlotUse, first_mounted};
+use mem_slots::Choice;
 use mon_enclave::Enclaves;
 use mon_fence::Fences;
-use mon_image::{Image, ImagePage, ImagePages, PageBytes};
+use mon_image::Image;
+use mon_life::{create_begin, destroy_begin, destroy_end, run_begin};
 use mon_owner::{Owner, Owners};
 use pl_base::{EncNo, HartNo, Memory, No, Perms, Space, State, Vpn};
 use pl_digest::OneByte;
-use rv_pmp::{Pmp, Rule};
+use rv_pmp::Pmp;
 use std::alloc::{AllocError, Global};
 use std::process::Abort;
 use std::test::Fail;
 
-// The entries of one zone with nine guarded pages, in which the rule of entry 2 bars writing in page 21.
-fn entries(rt: &impl Abort) -> Pmp {
-    let mut rules = [Rule::default(); 16];
-    for (i, cfg, addr) in [
-        (0usize, 0u8, 0x2000_0000u64),
-        (1, 0x09, 0x2000_2400),
-        (2, 0x19, 0x2000_55ff),
-        (13, 0, 0x2000_0000),
-        (14, 0x0f, 0x2001_0000),
-    ] {
-        rules[i] = Rule { cfg, addr };
-    }
-    assert!(rt; rules.iter().all(|rule| rule.valid()));
-    Pmp::new(rules)
-}
-
 // An image of `count` pages, 1 to 4.
 fn image(rt: &impl Abort, alloc: Global, count: usize) -> Result<Image, AllocError> {
     assert!(rt; 1 <= count && count <= 4);
-    let mut pages = Vec::new(alloc);
-    for _ in 0..count {
-        pages.push(ImagePage {
-            perms: Perms(5),
-            bytes: PageBytes::new(vec![in alloc; 0u8; 4096]?),
-        })?;
-    }
-    assert!(rt; 1 <= pages.len() && pages.len() <= 4);
-    Ok(Image {
-        entry: 0x10000,
-        pages: ImagePages::new(pages),
-    })
+    images::image(rt, alloc, 0x10000, &[Perms(5); 4][..count])
 }
 
 // The owners of 64 pages, nine of them guarded; page 20 is mapped once.
 fn owners(alloc: Global) -> Result<Owners, Fail> {
     let mut owners = Owners::new(alloc, 9, 64)?;
-    if let Some(Owner::Host { maps: 0 }) = owners.of(20) {
-        owners.add_map(20);
-    }
+    map_once(&mut owners, 20);
     Ok(owners)
 }
 
@@ -141,9 +116,9 @@ fn numbers_are_begun_or_refused_in_order(rt: HostRuntime) -> Result<(), Fail> {
         let answer = begin(&rt, &mut owners, &mut enclaves, &pmp, begun);
         assert_eq!(rt; answer, want, "{pages:?}");
     }
-    assert_eq!(rt; owners.of(63), Some(Owner::Enclave(EncNo(0))));
-    assert_eq!(rt; owners.of(22), Some(Owner::Shadow(EncNo(1))));
-    assert_eq!(rt; owners.of(21), Some(Owner::Host { maps: 0 }));
+    has_owner(&rt, &owners, 63, Some(Owner::Enclave(EncNo(0))));
+    has_owner(&rt, &owners, 22, Some(Owner::Shadow(EncNo(1))));
+    has_owner(&rt, &owners, 21, Some(Owner::Host { maps: 0 }));
     Ok(())
 }
 
@@ -196,38 +171,6 @@ fn an_enclave_is_given_back_where_no_line_has_it(rt: HostRuntime) -> Result<(), 
     Ok(())
 }
 
-// One zone, with nothing in it.
-fn zone<F: Fn(&[SlotUse]) -> usize>(
-    alloc: Global,
-    choice: Choice<F>,
-) -> Result<Ctl<OneByte, F>, Memory>
-    requires { NamesPosition F.Fn choice }
-    ensures { IfOk result (λ ctl. ctl.0.zones ≡ 1) }
-{
-    let ctl = Ctl::new(alloc, OneByte, 1, 1, &[], choice)?;
-    Ok(ctl)
-}
-
-// A word is written at the end of a page.
-fn write<F>(ctl: &mut Ctl<OneByte, F>, page: u32)
-    requires zone { ctl.old.0.zones ≡ 1 }
-    requires page { page < 64 }
-    ensures { ctl.new.0.zones ≡ 1 }
-{
-    ctl.raw_write(page, 4088, 9);
-}
-
-// The words at the end of three pages.
-fn words<F>(ctl: &Ctl<OneByte, F>) -> [u64; 3]
-    requires { ctl.now.0.zones ≡ 1 }
-{
-    [
-        ctl.raw_read(21, 4088),
-        ctl.raw_read(22, 4088),
-        ctl.raw_read(63, 4088),
-    ]
-}
-
 // The owners of 64 pages, of which three are number 0's.
 fn taken(alloc: Global) -> Result<Owners, Memory>
     ensures { IfOk result (λ owners. length owners ≡ 64) }
@@ -265,8 +208,7 @@ fn end<F>(ctl: &mut Ctl<OneByte, F>, owners: &mut Owners, enclaves: &mut Enclave
 
 #[test]
 fn its_pages_are_zeroed_pages_of_the_host(rt: HostRuntime) -> Result<(), Fail> {
-    let oldest = Choice::new(|slots: &[SlotUse]| first_mounted(slots));
-    let mut ctl = zone(rt.alloc(), oldest)?;
+    let mut ctl = zone(rt.alloc(), Choice::new(oldest))?;
     let mut owners = taken(rt.alloc())?;
     let mut enclaves = built(&rt, rt.alloc())?;
     write(&mut ctl, 21);
@@ -274,9 +216,9 @@ fn its_pages_are_zeroed_pages_of_the_host(rt: HostRuntime) -> Result<(), Fail> {
     write(&mut ctl, 63);
     end(&mut ctl, &mut owners, &mut enclaves);
     assert_eq!(rt; words(&ctl), [0, 9, 0]);
-    assert_eq!(rt; owners.of(21), Some(Owner::Host { maps: 0 }));
-    assert_eq!(rt; owners.of(22), Some(Owner::Enclave(EncNo(0))));
-    assert_eq!(rt; owners.of(63), Some(Owner::Host { maps: 0 }));
+    has_owner(&rt, &owners, 21, Some(Owner::Host { maps: 0 }));
+    has_owner(&rt, &owners, 22, Some(Owner::Enclave(EncNo(0))));
+    has_owner(&rt, &owners, 63, Some(Owner::Host { maps: 0 }));
     assert_eq!(rt; enclaves.get(EncNo(0)).state, State::Free);
     Ok(())
 }

@@ -4,10 +4,12 @@ ghost use Rattle.mem_slots.specs.Choices.{NamesPosition};
 ghost use Rattle.mon_fence.specs.Fences.{fence_of};
 ghost use Rattle.mon_host.specs.Unmapping.{HaveHostLeaves};
 
-use crate::{map, maps_tell, spaces_have_leaves, starts_in_empty_space, unmap_begin, unmap_end};
+use crate::owners::{has_owner, map_once};
+use crate::zone::oldest;
 use mem_ctl::{Ctl, Stop};
-use mem_slots::{Choice, SlotUse, first_mounted};
+use mem_slots::{Choice, SlotUse};
 use mon_fence::Fences;
+use mon_host::{map, maps_tell, spaces_have_leaves, starts_in_empty_space, unmap_begin, unmap_end};
 use mon_owner::{Owner, Owners};
 use mon_tables::start_words;
 use pl_base::{HartNo, Memory, No, Perms, Space, Va, Vpn};
@@ -62,8 +64,7 @@ fn map_page<D: Digester, F: Fn(&[SlotUse]) -> usize>(
 
 #[test]
 fn pages_are_mapped_or_refused_in_order(rt: HostRuntime) -> Result<(), Fail> {
-    let oldest = Choice::new(|slots: &[SlotUse]| first_mounted(slots));
-    let mut ctl = start(rt.alloc(), oldest)?;
+    let mut ctl = start(rt.alloc(), Choice::new(oldest))?;
     let mut owners = Owners::new(rt.alloc(), 6, 64)?;
     let mut fences = Fences::new(2);
     fences.post(HartNo(1), Space::HOST, Some(Vpn(3)));
@@ -79,15 +80,14 @@ fn pages_are_mapped_or_refused_in_order(rt: HostRuntime) -> Result<(), Fail> {
         let answer = map_page(&rt, &mut ctl, &mut owners, &fences, va, page);
         assert_eq!(rt; answer, want, "{va}");
     }
-    assert_eq!(rt; owners.of(20), Some(Owner::Host { maps: 2 }));
+    has_owner(&rt, &owners, 20, Some(Owner::Host { maps: 2 }));
     assert_eq!(rt; ctl.raw_read(2, 8), 0x2000_50c7);
     Ok(())
 }
 
 #[test]
 fn a_mapping_is_taken_away_under_a_fence(rt: HostRuntime) -> Result<(), Fail> {
-    let oldest = Choice::new(|slots: &[SlotUse]| first_mounted(slots));
-    let mut ctl = start(rt.alloc(), oldest)?;
+    let mut ctl = start(rt.alloc(), Choice::new(oldest))?;
     let mut owners = Owners::new(rt.alloc(), 6, 64)?;
     let mut fences = Fences::new(2);
     let mapped = map_page(&rt, &mut ctl, &mut owners, &fences, 0x1000, 20);
@@ -95,7 +95,7 @@ fn a_mapping_is_taken_away_under_a_fence(rt: HostRuntime) -> Result<(), Fail> {
     let begun = unmap_begin(&mut ctl, &mut fences, 1, HartNo(0), Va(0x1000));
     assert_eq!(rt; begun, Ok(20));
     assert!(rt; fences.covers(Space::HOST, Vpn(1)));
-    assert_eq!(rt; owners.of(20), Some(Owner::Host { maps: 1 }));
+    has_owner(&rt, &owners, 20, Some(Owner::Host { maps: 1 }));
     Ok(())
 }
 
@@ -104,13 +104,11 @@ fn a_page_has_one_mapping_less_in_the_end(rt: HostRuntime) -> Result<(), Fail> {
     let mut owners = Owners::new(rt.alloc(), 6, 64)?;
     let mut fences = Fences::new(1);
     fences.post(HartNo(0), Space::HOST, Some(Vpn(1)));
-    if let Some(Owner::Host { maps: 0 }) = owners.of(20) {
-        owners.add_map(20);
-    }
+    map_once(&mut owners, 20);
     if let Some(Owner::Host { maps: 1.. }) = owners.of(20) {
         unmap_end(&mut owners, &mut fences, HartNo(0), 20);
     }
-    assert_eq!(rt; owners.of(20), Some(Owner::Host { maps: 0 }));
+    has_owner(&rt, &owners, 20, Some(Owner::Host { maps: 0 }));
     assert!(rt; !fences.covers(Space::HOST, Vpn(1)));
     Ok(())
 }

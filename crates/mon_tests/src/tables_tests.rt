@@ -1,5 +1,5 @@
 // Words of page tables, against values worked by hand.
-use crate::{Leaf, host_slot, leaf_word, number_slot, root_of, start_words, table_page};
+use mon_tables::{Leaf, host_slot, leaf_word, number_slot, root_of, start_words, table_page};
 use pl_base::{EncNo, Mode, Perms, Ppn, Space, Vpn};
 
 const READ_WRITE: Perms = Perms(3);
