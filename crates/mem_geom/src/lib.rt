@@ -14,6 +14,3 @@ pub use laws::{
     writes_change_one_place, writes_change_range,
 };
 pub use layout::{MEMORY_START, memory_end, page_start, place_range};
-
-#[cfg(test)]
-mod tests;

@@ -7,6 +7,3 @@
 mod roots;
 
 pub use roots::{check_root, replace_root};
-
-#[cfg(test)]
-mod tests;

@@ -8,6 +8,3 @@ mod slots;
 pub use choice::{Choice, fewest_uses, first_mounted};
 pub use slot_use::SlotUse;
 pub use slots::Slots;
-
-#[cfg(test)]
-mod tests;

@@ -16,6 +16,3 @@ pub use new_path::NewPath;
 pub use nodes::{digest_pieces, page_nodes};
 pub use sealed::{Sealed, Verdict};
 pub use taken::Taken;
-
-#[cfg(test)]
-mod tests;

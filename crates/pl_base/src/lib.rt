@@ -28,6 +28,3 @@ pub use place::Place;
 pub use refusal::No;
 pub use span::Span;
 pub use state::{State, Why};
-
-#[cfg(test)]
-mod tests;

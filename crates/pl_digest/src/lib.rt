@@ -9,6 +9,3 @@ mod node;
 
 pub use digester::{Digester, OneByte, Sha};
 pub use node::{DIGEST_BYTES, entry, has_digest_of, set_entry, with_digest_of};
-
-#[cfg(test)]
-mod tests;

@@ -23,6 +23,3 @@ pub use pages::{all_pages, guarded_pages};
 pub use printing::{put_entry, put_history, put_place};
 pub use setup::{ChoiceName, Setup, SetupParts};
 pub use summary::put_summary;
-
-#[cfg(test)]
-mod tests;

@@ -19,6 +19,3 @@ pub use pieces::{Piece, put_pieces};
 pub use pl_base::{Failed, Memory};
 pub use reading::{ReadAll, read_all};
 pub use writing::{put_bytes, put_dec, put_hex, put_short};
-
-#[cfg(test)]
-mod tests;

@@ -8,6 +8,3 @@ mod words;
 pub use laws::run_laws;
 pub use step::{Act, Context, loaded, next, passed};
 pub use words::MOST_WORDS;
-
-#[cfg(test)]
-mod tests;

@@ -10,6 +10,3 @@ mod values;
 pub use branching::taken;
 pub use division::division_law;
 pub use values::alu;
-
-#[cfg(test)]
-mod tests;

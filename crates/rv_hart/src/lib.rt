@@ -11,6 +11,3 @@ pub use law::repeated_steps_translate;
 pub use learning::learn;
 pub use seeking::{Sought, seek};
 pub use walks::{Micro, PageFault, View, Walk};
-
-#[cfg(test)]
-mod tests;

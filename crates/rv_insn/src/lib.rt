@@ -12,6 +12,3 @@ mod word;
 pub use decoding::decode;
 pub use encoding::encode;
 pub use insn::{AluOp, Cond, Insn};
-
-#[cfg(test)]
-mod tests;

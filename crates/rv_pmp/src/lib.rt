@@ -9,6 +9,3 @@ mod rule;
 pub use law::registers_name_ranges;
 pub use pmp::Pmp;
 pub use rule::Rule;
-
-#[cfg(test)]
-mod tests;

@@ -10,6 +10,3 @@ pub use address::canonical;
 pub use law::steps_give_walks;
 pub use walk::{Walked, entry_address, walk_step};
 pub use word::{A, D, U, V};
-
-#[cfg(test)]
-mod tests;

@@ -4,6 +4,3 @@
 mod tlb;
 
 pub use tlb::{Tlb, TlbEntry};
-
-#[cfg(test)]
-mod tests;

@@ -1,7 +1,7 @@
 // Decisions, against the standard's cases.
-use crate::{Pmp, Rule, registers_name_ranges};
 use pl_base::Kind::{Fetch, Load, Store};
 use pl_base::{Kind, Pa};
+use rv_pmp::{Pmp, Rule, registers_name_ranges};
 use std::process::Abort;
 
 const R: u8 = 1;

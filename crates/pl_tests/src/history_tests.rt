@@ -2,8 +2,8 @@
 ghost use Rattle.std.specs.Prelude.{◌≡◌};
 ghost use Rattle.pl_history.specs.History.{part_end};
 
-use crate::{Answer, Entry, History, put_entry, put_history, put_summary};
 use pl_base::{EncNo, No, Place, State, Why};
+use pl_history::{Answer, Entry, History, put_entry, put_history, put_summary};
 use pl_io::MemSink;
 use std::alloc::Global;
 use std::test::Fail;

@@ -1,7 +1,9 @@
 // Paths that hold, break, and are renewed, over two digest functions.
 ghost use Rattle.std.specs.Prelude.{◌≡◌};
 
-use crate::{Taken, Verdict, page_nodes};
+use crate::nodes::eight;
+use crate::threads::sent;
+use mem_tree::{Taken, Verdict, page_nodes};
 use pl_base::Place;
 use pl_digest::{OneByte, Sha};
 
@@ -40,14 +42,6 @@ const ROOT_AFTER: [u8; 32] = [
     0x97, 0x1d, 0xf2, 0x55, 0xae, 0xe4, 0xb8, 0x73, 0x45, 0x62, 0x01, 0xc2, 0x5d, 0xa3, 0x3e, 0x7e,
 ];
 
-fn eight(digest: &[u8; 32]) -> [u8; 256] {
-    let mut node = [0; 256];
-    for k in 0..8usize {
-        node[32 * k..32 * k + 32].copy_from_slice(digest);
-    }
-    node
-}
-
 /// The path of block 13 of page 37 of zone 3, where all pages are zero.
 fn zero_path() -> Taken<Sha>
     ensures page { result.page ≡ 229 }
@@ -64,13 +58,6 @@ fn zero_path() -> Taken<Sha>
         level4: eight(&ZERO_DIGESTS[3]),
         root: ZERO_DIGESTS[4],
     }
-}
-
-// A sealed path may go to another thread.
-fn sent<T: Send>(value: T) -> T
-    ensures { result ≡ value }
-{
-    value
 }
 
 #[test]
@@ -142,6 +129,7 @@ fn a_path_breaks_at_the_first_changed_place(rt: HostRuntime) {
 
 #[test]
 fn a_part_changes_the_path_up_to_the_root(rt: HostRuntime) {
+    // A sealed path may go to another thread.
     let sealed = sent(zero_path().seal());
     assert_eq!(rt; sealed.taken().page, 229);
     match sealed.verdict() {

@@ -1,7 +1,8 @@
 // Places and bytes, at their edges.
 ghost use Rattle.std.specs.Prelude.{◌≡◌};
 
-use crate::{Dram, place_range};
+use crate::threads::sent;
+use mem_geom::{Dram, place_range};
 use pl_base::Place;
 use std::test::Fail;
 
@@ -53,15 +54,9 @@ fn places_of_the_last_zone_stand_last(rt: HostRuntime) {
     assert_eq!(rt; place_range(64, &root_node(2, 0)), (0x8192_4800, 256));
 }
 
-// Off-chip memory may go to another thread.
-fn sent<T: Send>(value: T) -> T
-    ensures { result ≡ value }
-{
-    value
-}
-
 #[test]
 fn memory_keeps_what_is_written(rt: HostRuntime) -> Result<(), Fail> {
+    // Off-chip memory may go to another thread.
     let mut dram = sent(Dram::new(rt.alloc(), 1)?);
     let last = dram.end() - 4;
     assert_eq!(rt; last, 0x8006_51fc);

@@ -1,34 +1,18 @@
 // Steps of walks, against the standard's cases.
-use crate::{Walked, canonical, steps_give_walks, walk_step};
+use crate::table_words::{A, D, R, U, V, W, word};
 use pl_base::Kind::{Fetch, Load, Store};
 use pl_base::Mode::{Super, User};
 use pl_base::{Kind, Mode, Perms, Ppn, Va, Vpn};
-
-const V: u64 = 1;
-
-const R: u64 = 1 << 1;
-
-const W: u64 = 1 << 2;
+use rv_sv39::{Walked, canonical, steps_give_walks, walk_step};
 
 const X: u64 = 1 << 3;
 
-const U: u64 = 1 << 4;
-
 const G: u64 = 1 << 5;
-
-const A: u64 = 1 << 6;
-
-const D: u64 = 1 << 7;
 
 const RSW: u64 = 3 << 8;
 
 /// Three fields of nine bits: 1, 2 and 3.
 const PAGE: Vpn = Vpn((1 << 18) + (2 << 9) + 3);
-
-/// A word with a page number and these bits.
-fn word(ppn: u32, bits: u64) -> u64 {
-    (u64::from(ppn) << 10) | bits
-}
 
 #[test]
 fn an_address_is_canonical_by_its_upper_bits(rt: HostRuntime) {

@@ -1,5 +1,5 @@
 // Known digests.
-use crate::{Digester, OneByte, Sha};
+use pl_digest::{Digester, OneByte, Sha};
 
 fn digest_of<D: Digester>(bytes: &[u8]) -> [u8; 32] {
     D::digest(bytes)

@@ -2,9 +2,10 @@
 ghost use Rattle.std.specs.Prelude.{IsTrue};
 ghost use Rattle.rv_hart.specs.Walks.{IsWalk};
 
-use crate::{PageFault, Sought, View, Walk, learn, repeated_steps_translate, seek};
+use crate::table_words::{A, D, R, U, V, W, word};
 use pl_base::Kind::{Fetch, Load, Store};
 use pl_base::{Kind, Mode, Pa, Perms, Ppn, Space, Va, Vpn};
+use rv_hart::{PageFault, Sought, View, Walk, learn, repeated_steps_translate, seek};
 use rv_tlb::{Tlb, TlbEntry};
 use std::process::Abort;
 
@@ -122,23 +123,6 @@ fn is_walk(walk: &Walk) -> bool
         Walk::Level { level, table } => level < 3 && table.0 < 1 << 44,
         Walk::Found { ppn, .. } => ppn.0 < 1 << 44,
     }
-}
-
-const V: u64 = 1;
-
-const R: u64 = 1 << 1;
-
-const W: u64 = 1 << 2;
-
-const U: u64 = 1 << 4;
-
-const A: u64 = 1 << 6;
-
-const D: u64 = 1 << 7;
-
-/// A table word with a page number and these bits.
-fn word(ppn: u32, bits: u64) -> u64 {
-    (u64::from(ppn) << 10) | bits
 }
 
 #[test]

@@ -1,6 +1,6 @@
 // Permissions and lists, each call once.
-use crate::{Kind, Listed, Perms};
 use bitflags::Flags;
+use pl_base::{Kind, Listed, Perms};
 use std::test::Fail;
 
 #[test]

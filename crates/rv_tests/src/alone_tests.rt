@@ -1,5 +1,5 @@
 // Single instructions, with values worked out by hand from the standard.
-use crate::{Act, Context, loaded, next, passed};
+use rv_alone::{Act, Context, loaded, next, passed};
 
 const PC: u64 = 0x1_0000;
 

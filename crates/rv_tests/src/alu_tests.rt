@@ -1,5 +1,5 @@
 // Values worked out apart from the program, by whole numbers of any size.
-use crate::{alu, taken};
+use rv_alu::{alu, taken};
 use rv_insn::{AluOp, Cond};
 
 #[test]

@@ -1,6 +1,6 @@
 // Translations put, found and dropped.
-use crate::{Tlb, TlbEntry};
 use pl_base::{Perms, Ppn, Space, Vpn};
+use rv_tlb::{Tlb, TlbEntry};
 use std::process::Abort;
 
 /// The entry of a page of a space, at a physical page that tells both apart.

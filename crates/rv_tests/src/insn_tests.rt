@@ -1,6 +1,6 @@
 // Words of the standard's tables, and words beside them.
 // `tools/check_encodings` assembles each comment that begins with a mnemonic, and compares it with the word in its line.
-use crate::{AluOp, Cond, Insn, decode, encode};
+use rv_insn::{AluOp, Cond, Insn, decode, encode};
 use std::process::Abort;
 
 fn check(rt: &impl Abort, word: u32, insn: Insn) {

@@ -1,18 +1,11 @@
 // Slots and choices, each call once.
-ghost use Rattle.std.specs.Prelude.{◌≡◌};
-
-use crate::{Choice, SlotUse, Slots, fewest_uses, first_mounted};
+use crate::threads::sent;
+use mem_slots::{Choice, SlotUse, Slots, fewest_uses, first_mounted};
 use std::test::Fail;
-
-// Slots may go to another thread.
-fn sent<T: Send>(value: T) -> T
-    ensures { result ≡ value }
-{
-    value
-}
 
 #[test]
 fn slots_are_a_list_in_order_of_mounting(rt: HostRuntime) -> Result<(), Fail> {
+    // Slots may go to another thread.
     let mut slots = sent(Slots::new(2));
     assert!(rt; slots.find(5).is_none() && !slots.is_full());
     slots.add(5, [7; 32]);

@@ -1,5 +1,5 @@
 // Texts of numbers, sources and sinks in memory, and what their calls gave.
-use crate::{
+use pl_io::{
     Failed, MemSink, MemSource, Piece, ReadAll, Sink, Source, StdSink, StdSource, put_bytes,
     put_dec, put_hex, put_pieces, put_short, read_all, read_dec, read_hex,
 };

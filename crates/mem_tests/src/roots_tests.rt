@@ -1,5 +1,6 @@
 // The nodes over a zone's root, checked and replaced.
-use crate::{check_root, replace_root};
+use crate::nodes::eight;
+use mem_roots::{check_root, replace_root};
 use pl_base::Place;
 use pl_digest::Sha;
 
@@ -20,17 +21,9 @@ const ROOT_AFTER: [u8; 32] = [
     0x88, 0xc8, 0x7e, 0xbb, 0x3e, 0x47, 0x15, 0xe0, 0x86, 0x77, 0xc4, 0x0c, 0x9e, 0xb4, 0x5f, 0xff,
 ];
 
-fn zero_top() -> [u8; 256] {
-    let mut top = [0; 256];
-    for k in 0..8usize {
-        top[32 * k..32 * k + 32].copy_from_slice(&ZERO_NODE);
-    }
-    top
-}
-
 #[test]
 fn a_root_is_checked_and_replaced(rt: HostRuntime) {
-    let mut top = zero_top();
+    let mut top = eight(&ZERO_NODE);
     let mut node = [0; 256];
     assert_eq!(rt; check_root::<Sha>(&top, &node, 29, &ZERO_ROOT), Ok([0; 32]));
     let root = replace_root::<Sha>(&mut top, &mut node, 29, &[7; 32]);
