@@ -12,7 +12,7 @@ use mem_slots::{Choice, SlotUse};
 use mon_enclave::Enclaves;
 use mon_fence::Fences;
 use mon_shadow::{break_page, breaks_tell};
-use pl_base::{EncNo, HartNo, Memory, Perms, Space, State, Vpn};
+use pl_base::{EncNo, HartNo, Perms, Space, State, Vpn};
 use pl_digest::{Digester, OneByte};
 use std::alloc::Global;
 use std::process::Abort;

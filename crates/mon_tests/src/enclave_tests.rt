@@ -1,9 +1,9 @@
 // Records that were worked out by hand.
 use crate::images::image;
-use mon_enclave::{Enclaves, PageKind};
+use mon_enclave::{Enclave, Enclaves, PageKind};
 use mon_image::Image;
 use pl_base::{EncNo, HartNo, No, Perms, State, Why};
-use std::alloc::Global;
+use std::alloc::{AllocError, Global};
 use std::process::Abort;
 use std::test::Fail;
 
@@ -103,26 +103,36 @@ fn answer(
     Ok(None)
 }
 
-// The whole record of a number, but for the registers that stay 0.
-fn record(rt: &impl Abort, alloc: Global, enclaves: &Enclaves, e: u8) -> Result<String, Fail> {
-    assert!(rt; usize::from(e) < enclaves.len());
-    let enclave = enclaves.get(EncNo(e));
-    let image = format!(in alloc;
+// The pages of a record, and where they are from.
+fn image_part(alloc: Global, enclave: &Enclave) -> Result<String, AllocError> {
+    format!(in alloc;
         "image {} pages {:?} spares {:?} of {} parent {:?}",
         enclave.image,
         enclave.pages.as_slice(),
         enclave.spares.as_slice(),
         enclave.given,
         enclave.parent,
-    )?;
-    let words = format!(in alloc;
+    )
+}
+
+// Its words.
+fn words_part(alloc: Global, enclave: &Enclave) -> Result<String, AllocError> {
+    format!(in alloc;
         "sent {:?} {} out {:?} {} {}",
         enclave.sent.as_slice(),
         enclave.received,
         enclave.out.as_slice(),
         enclave.shown,
         enclave.taken,
-    )?;
+    )
+}
+
+// The whole record of a number, but for the registers that stay 0.
+fn record(rt: &impl Abort, alloc: Global, enclaves: &Enclaves, e: u8) -> Result<String, Fail> {
+    assert!(rt; usize::from(e) < enclaves.len());
+    let enclave = enclaves.get(EncNo(e));
+    let image = image_part(alloc, enclave)?;
+    let words = words_part(alloc, enclave)?;
     Ok(format!(in alloc;
         "{:?} on {} pc {:x} x2 {:x} retired {} {words} {image}",
         enclave.state, enclave.hart.0, enclave.context.pc, enclave.context.regs[2], enclave.retired,

@@ -1,7 +1,6 @@
 // Pages of the host are mapped, and a mapping is taken away, by hand.
-ghost use Rattle.std.specs.Prelude.{◌≡◌, ◌≤◌, ◌<◌, IfOk, None, length};
+ghost use Rattle.std.specs.Prelude.{◌≡◌, IfOk};
 ghost use Rattle.mem_slots.specs.Choices.{NamesPosition};
-ghost use Rattle.mon_fence.specs.Fences.{fence_of};
 ghost use Rattle.mon_host.specs.Unmapping.{HaveHostLeaves};
 
 use crate::owners::{has_owner, map_once};

@@ -1,6 +1,5 @@
 // Numbers that are begun, entered and given back, by hand.
-ghost use Rattle.std.specs.Prelude.{◌≡◌, ◌<◌, [], ◌∷◌, IfOk, length};
-ghost use Rattle.mem_slots.specs.Choices.{NamesPosition};
+ghost use Rattle.std.specs.Prelude.{◌≡◌, [], ◌∷◌, IfOk, length};
 ghost use Rattle.mon_life.specs.Destroying.{held_by};
 
 use crate::entries::entries;

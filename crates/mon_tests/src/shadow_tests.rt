@@ -1,6 +1,5 @@
 // Shadows that are forked and given back, by hand.
-ghost use Rattle.std.specs.Prelude.{◌≡◌, ◌<◌, IfOk, length};
-ghost use Rattle.mem_slots.specs.Choices.{NamesPosition};
+ghost use Rattle.std.specs.Prelude.{◌≡◌, IfOk, length};
 
 use crate::entries::entries;
 use crate::images::image;
