@@ -76,7 +76,7 @@ pub(crate) fn check_places<D: Digester>(
     Ok(())
 }
 
-/// The digest held for a place of a path.
+// The digest held for a place of a path.
 fn held_at(zones: u8, root: &[u8; 32], off_chip: &Dram, places: &[Place], i: usize) -> [u8; 32]
     requires few { zones ≤ 64 }
     requires exist { All (λ p. Exists zones p) places.now }
@@ -91,7 +91,7 @@ fn held_at(zones: u8, root: &[u8; 32], off_chip: &Dram, places: &[Place], i: usi
     held_for(zones, off_chip, &places[i])
 }
 
-/// The check of one place.
+// The check of one place.
 fn check_place<D: Digester>(
     zones: u8,
     held: &[u8; 32],
@@ -157,7 +157,7 @@ fn collision(place: &Place, taken: &[u8], written: &[u8]) -> Collision
     }
 }
 
-/// The digest that the node above a place has for it.
+// The digest that the node above a place has for it.
 fn held_for(zones: u8, off_chip: &Dram, place: &Place) -> [u8; 32]
     requires exists { Exists zones place.now }
     requires few { zones ≤ 64 }
@@ -171,7 +171,7 @@ fn held_for(zones: u8, off_chip: &Dram, place: &Place) -> [u8; 32]
     entry(&node, u16::from(number))
 }
 
-/// The node above a place, and the number of its entry there.
+// The node above a place, and the number of its entry there.
 fn above(place: &Place) -> (Place, u8)
     requires below { parent place.now ≡ None → ⊥ }
     requires exists { Exists 64 place.now }

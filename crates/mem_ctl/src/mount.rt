@@ -38,7 +38,7 @@ impl<D: Digester, F: Fn(&[SlotUse]) -> usize> Ctl<D, F> {
         self.mount_anew(zone)
     }
 
-    /// Mounts a zone into a free slot.
+    // Mounts a zone into a free slot.
     fn mount_anew(&mut self, zone: u8) -> Result<(), Broken>
         requires zone { zone < self.old.0.zones }
         requires room { length self.old.0.mounted < self.old.0.slots }
@@ -56,7 +56,7 @@ impl<D: Digester, F: Fn(&[SlotUse]) -> usize> Ctl<D, F> {
         Ok(())
     }
 
-    /// Evicts the zone at the position that the choice names.
+    // Evicts the zone at the position that the choice names.
     fn evict(&mut self) -> Result<(), Broken>
         requires some { 0 < length self.old.0.mounted }
         requires choice { NamesPosition F.Fn self.old.1 }
@@ -87,7 +87,7 @@ impl<D: Digester, F: Fn(&[SlotUse]) -> usize> Ctl<D, F> {
 }
 
 impl<D: Digester, F> Ctl<D, F> {
-    /// The check of the root table's nodes over a zone.
+    // The check of the root table's nodes over a zone.
     fn check_root(&self, zone: u8) -> Result<(), Broken>
         requires zone { zone < self.now.0.zones }
         ensures { checked_of result ≡ root_check D.digest_of self.now.0 zone }
@@ -101,7 +101,7 @@ impl<D: Digester, F> Ctl<D, F> {
         )
     }
 
-    /// The zone's entry in the root table.
+    // The zone's entry in the root table.
     fn root_entry(&self, zone: u8) -> [u8; 32]
         requires { zone < self.now.0.zones }
         ensures { result ≡ entry (zone % 8) (place_bytes self.now.0.zones self.now.0.off_chip (Place.RootNode 1 (zone / 8))) }

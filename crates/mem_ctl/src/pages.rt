@@ -70,7 +70,7 @@ impl<D: Digester, F: Fn(&[SlotUse]) -> usize> Ctl<D, F> {
         Ok(())
     }
 
-    /// Mounts the zone of a page, counts a use, and checks a path in it.
+    // Mounts the zone of a page, counts a use, and checks a path in it.
     fn open_zone(&mut self, page: u32, places: &[Place]) -> Result<(), Broken>
         requires page { page < 64 * self.old.0.zones }
         requires exist { All (λ p. Exists self.old.0.zones p) places.now }
@@ -94,7 +94,7 @@ impl<D: Digester, F: Fn(&[SlotUse]) -> usize> Ctl<D, F> {
 }
 
 impl<D: Digester, F> Ctl<D, F> {
-    /// The check of a path in the mounted zone of a page.
+    // The check of a path in the mounted zone of a page.
     fn check_zone(&self, page: u32, places: &[Place]) -> Result<(), Broken>
         requires page { page < 64 * self.now.0.zones }
         requires exist { All (λ p. Exists self.now.0.zones p) places.now }
@@ -108,7 +108,7 @@ impl<D: Digester, F> Ctl<D, F> {
 }
 
 impl<D: Digester, F> Ctl<D, F> {
-    /// Writes a page with the nodes over it off chip and into the mirror, and gives the zone's slot its root.
+    // Writes a page with the nodes over it off chip and into the mirror, and gives the zone's slot its root.
     fn replace(&mut self, page: u32, bytes: &[u8; 4096])
         requires page { page < 64 * self.old.0.zones }
         requires mounted { is_mounted self.old.0.mounted (page / 64) ≡ true }
@@ -139,7 +139,7 @@ impl<D: Digester, F> Ctl<D, F> {
     }
 }
 
-/// The nodes over a page: the eight of level 1, one after another, and one of each other level.
+// The nodes over a page: the eight of level 1, one after another, and one of each other level.
 #[derive(Drop)]
 struct PageNodes {
     level1: [u8; 2048],
@@ -148,7 +148,7 @@ struct PageNodes {
     level4: [u8; 256],
 }
 
-/// Writes a page and the nodes over it.
+// Writes a page and the nodes over it.
 fn write_page(memory: &mut Dram, zones: u8, page: u32, bytes: &[u8; 4096], nodes: &PageNodes)
     requires few { zones ≤ 64 }
     requires page { page < 64 * zones }
@@ -176,7 +176,7 @@ fn write_page(memory: &mut Dram, zones: u8, page: u32, bytes: &[u8; 4096], nodes
     write_place(memory, zones, &above[0], &nodes.level4);
 }
 
-/// The places that stay above a page that is replaced.
+// The places that stay above a page that is replaced.
 fn replaced_places(page: u32) -> [Place; 2]
     requires { page < 4096 }
     ensures { result ≡ replaced_places page }
@@ -196,7 +196,7 @@ fn replaced_places(page: u32) -> [Place; 2]
     ]
 }
 
-/// The places of a whole page's path: three nodes, the eight of level 1, and the 64 blocks.
+// The places of a whole page's path: three nodes, the eight of level 1, and the 64 blocks.
 fn page_places(page: u32) -> [Place; 75]
     requires { page < 4096 }
     ensures { result ≡ page_places page }
@@ -208,7 +208,7 @@ fn page_places(page: u32) -> [Place; 75]
     places
 }
 
-/// The place at a position of it.
+// The place at a position of it.
 fn page_place(page: u32, i: usize) -> Place
     requires page { page < 4096 }
     requires i { i < 75 }

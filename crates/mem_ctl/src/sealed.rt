@@ -70,7 +70,7 @@ pub(crate) fn check_sealed<D: Digester>(
     Ok(())
 }
 
-/// The bytes of a place of the path.
+// The bytes of a place of the path.
 fn part<'a, D>(taken: &'a Taken<D>, place: &Place) -> &'a [u8]
     requires { is_of_zone place.now ≡ true }
     ensures bytes { result.now ≡ part_bytes (parts_of taken.now) place.now }
@@ -86,7 +86,7 @@ fn part<'a, D>(taken: &'a Taken<D>, place: &Place) -> &'a [u8]
     }
 }
 
-/// The check of one place of it.
+// The check of one place of it.
 fn check_part<D: Digester>(
     zones: u8,
     mirror: &Dram,
@@ -105,7 +105,7 @@ fn check_part<D: Digester>(
     check_written::<D>(zones, mirror, place, bytes)
 }
 
-/// Whether the path breaks at this place.
+// Whether the path breaks at this place.
 fn is_break(verdict: &Verdict, place: &Place) -> bool
     ensures { result ≡ is_break verdict.now place.now }
 {

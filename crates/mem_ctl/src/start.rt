@@ -18,7 +18,7 @@ use pl_base::{Memory, Place};
 use pl_digest::{DIGEST_BYTES, Digester};
 use std::alloc::Global;
 
-/// The nodes of levels 1 and 2 over a page, those of level 1 one after another, and the root of the page.
+// The nodes of levels 1 and 2 over a page, those of level 1 one after another, and the root of the page.
 #[derive(Clone, Copy)]
 struct LowerNodes {
     level1: [u8; 2048],
@@ -26,14 +26,14 @@ struct LowerNodes {
     root: [u8; 32],
 }
 
-/// The node over eight nodes, and its digest.
+// The node over eight nodes, and its digest.
 #[derive(Clone, Copy)]
 struct Top {
     node: [u8; 256],
     root: [u8; 32],
 }
 
-/// What needs no digest anew: a page with its nodes, and the digests of 64 pages with the node over them.
+// What needs no digest anew: a page with its nodes, and the digests of 64 pages with the node over them.
 #[derive(Drop)]
 struct Known {
     page: [u8; 4096],
@@ -78,7 +78,7 @@ impl<D: Digester, F: Drop> Ctl<D, F> {
     }
 }
 
-/// Writes words into a memory of zeros.
+// Writes words into a memory of zeros.
 fn write_words(memory: &mut Dram, words: &[(u32, u16, u64)])
     requires zero { All (λ byte. byte ≡ 0) memory.old }
     requires words { AreWordsOf (length memory.old / 4096) words.now }
@@ -91,7 +91,7 @@ fn write_words(memory: &mut Dram, words: &[(u32, u16, u64)])
     }
 }
 
-/// Writes the nodes over all pages, and the root table. The result is its root.
+// Writes the nodes over all pages, and the root table. The result is its root.
 fn write_trees<D: Digester>(memory: &mut Dram, zones: u8) -> [u8; 32]
     requires few { zones ≤ 64 }
     requires size { length memory.old ≡ memory_size zones }
@@ -104,7 +104,7 @@ fn write_trees<D: Digester>(memory: &mut Dram, zones: u8) -> [u8; 32]
     write_table::<D>(memory, zones, &entries)
 }
 
-/// Writes the nodes over all pages, and collects the entries of the root table.
+// Writes the nodes over all pages, and collects the entries of the root table.
 fn write_zones<D: Digester>(memory: &mut Dram, zones: u8, known: &Known, entries: &mut [u8; 2048])
     requires few { zones ≤ 64 }
     requires size { length memory.old ≡ memory_size zones }
@@ -120,7 +120,7 @@ fn write_zones<D: Digester>(memory: &mut Dram, zones: u8, known: &Known, entries
     }
 }
 
-/// Writes the root table with these entries. The result is its root.
+// Writes the root table with these entries. The result is its root.
 fn write_table<D: Digester>(memory: &mut Dram, zones: u8, entries: &[u8; 2048]) -> [u8; 32]
     requires few { zones ≤ 64 }
     requires size { length memory.old ≡ memory_size zones }
@@ -133,7 +133,7 @@ fn write_table<D: Digester>(memory: &mut Dram, zones: u8, entries: &[u8; 2048]) 
     top.root
 }
 
-/// Writes the nodes over a zone's pages. The result is its root.
+// Writes the nodes over a zone's pages. The result is its root.
 fn write_zone<D: Digester>(memory: &mut Dram, zones: u8, zone: u8, known: &Known) -> [u8; 32]
     requires few { zones ≤ 64 }
     requires zone { zone < zones }
@@ -159,8 +159,8 @@ fn write_zone<D: Digester>(memory: &mut Dram, zones: u8, zone: u8, known: &Known
     top.root
 }
 
-/// Writes the nodes of level 1 over a zone's pages from an address behind them on, and collects those of level 2 and the
-/// roots of the pages.
+// Writes the nodes of level 1 over a zone's pages from an address behind them on, and collects those of level 2 and the
+// roots of the pages.
 fn write_level1<D: Digester>(
     memory: &mut Dram,
     start: u64,
@@ -188,7 +188,7 @@ fn write_level1<D: Digester>(
     }
 }
 
-/// The nodes over a page of a memory.
+// The nodes over a page of a memory.
 fn known_nodes<D: Digester>(memory: &Dram, page: u32, known: &Known) -> LowerNodes
     requires inside { 4096 * page + 4096 ≤ length memory.now }
     requires known { IsKnown D.digest_of known.now }
@@ -202,7 +202,7 @@ fn known_nodes<D: Digester>(memory: &Dram, page: u32, known: &Known) -> LowerNod
     nodes_over::<D>(&bytes)
 }
 
-/// The node over eight nodes with the digests of 64 pages.
+// The node over eight nodes with the digests of 64 pages.
 fn known_top<D: Digester>(digests: &[u8; 2048], known: &Known) -> Top
     requires { IsKnown D.digest_of known.now }
     ensures { IsTopOver D.digest_of digests.now result }
@@ -213,7 +213,7 @@ fn known_top<D: Digester>(digests: &[u8; 2048], known: &Known) -> Top
     top_over::<D>(digests)
 }
 
-/// A page of zeros, and a zone of such pages.
+// A page of zeros, and a zone of such pages.
 fn known_zeros<D: Digester>() -> Known
     ensures known { IsKnown D.digest_of result }
     ensures page { result.page ≡ zero_page }
@@ -232,7 +232,7 @@ fn known_zeros<D: Digester>() -> Known
     }
 }
 
-/// Fills a list with one digest.
+// Fills a list with one digest.
 fn repeat_digest(digests: &mut [u8; 2048], digest: &[u8; 32])
     ensures { AreEachDigest digest.now digests.new }
 {
@@ -264,7 +264,7 @@ fn top_over<D: Digester>(digests: &[u8; 2048]) -> Top
     Top { node, root }
 }
 
-/// Puts bytes into others, from a place on.
+// Puts bytes into others, from a place on.
 fn put_bytes(all: &mut [u8], at: usize, bytes: &[u8])
     requires { at + length bytes.now ≤ length all.old }
     ensures bytes { all.new ≡ with_bytes all.old at bytes.now }

@@ -76,7 +76,7 @@ impl<D: Digester, F: Fn(&[SlotUse]) -> usize> Ctl<D, F> {
 }
 
 impl<D: Digester, F> Ctl<D, F> {
-    /// Whether a path's root is the one of its zone's slot.
+    // Whether a path's root is the one of its zone's slot.
     fn root_stands(&self, taken: &Taken<D>) -> bool
         requires { taken.now.page < 4096 }
         ensures { result ≡ root_stands taken.now.root (root_of self.now.0.mounted (taken.now.page / 64)) }
@@ -87,14 +87,14 @@ impl<D: Digester, F> Ctl<D, F> {
         }
     }
 
-    /// Whether a path holds under another root than the one of its zone's slot, or its zone isn't mounted.
+    // Whether a path holds under another root than the one of its zone's slot, or its zone isn't mounted.
     fn is_stale(&self, sealed: &Sealed<D>) -> bool
         ensures { result ≡ (is_whole (verdict_of (first_break D.digest_of (taken_path sealed.now))) && not (root_stands sealed.now.root (root_of self.now.0.mounted (sealed.now.page / 64)))) }
     {
         is_whole(sealed.verdict()) && !self.root_stands(sealed.taken())
     }
 
-    /// Writes by a path that holds and stands; a read changes nothing.
+    // Writes by a path that holds and stands; a read changes nothing.
     fn obey(&mut self, sealed: &Sealed<D>, op: Op)
         requires page { sealed.now.page < 64 * self.old.0.zones }
         requires op { IsOpIn sealed.now.block_no op }
@@ -126,7 +126,7 @@ impl<D: Digester, F> Ctl<D, F> {
     }
 }
 
-/// Whether a verdict is that the path holds.
+// Whether a verdict is that the path holds.
 fn is_whole(verdict: Verdict) -> bool
     ensures { result ≡ is_whole verdict }
 {
@@ -136,7 +136,7 @@ fn is_whole(verdict: Verdict) -> bool
     }
 }
 
-/// Where in its block the eight bytes begin that hold the part.
+// Where in its block the eight bytes begin that hold the part.
 fn word_start(op: Op) -> u16
     ensures { result ≡ op_offset op % 64 / 8 * 8 }
 {

@@ -112,7 +112,7 @@ impl<D: Digester, F: Fn(&[SlotUse]) -> usize> Ctl<D, F> {
         Ok(self.take_word(page, (offset / 64) as u8))
     }
 
-    /// Mounts the zone of a page, counts a use, and takes, seals and checks the path of one of its blocks.
+    // Mounts the zone of a page, counts a use, and takes, seals and checks the path of one of its blocks.
     fn open_word(&mut self, page: u32, block: u8) -> Result<Sealed<D>, Broken>
         requires page { page < 64 * self.old.0.zones }
         requires block { block < 64 }
@@ -136,7 +136,7 @@ impl<D: Digester, F: Fn(&[SlotUse]) -> usize> Ctl<D, F> {
 }
 
 impl<D: Digester, F> Ctl<D, F> {
-    /// The path of a block of a mounted zone, as it stands off chip.
+    // The path of a block of a mounted zone, as it stands off chip.
     fn take_word(&self, page: u32, block: u8) -> Taken<D>
         requires page { page < 64 * self.now.0.zones }
         requires block { block < 64 }
@@ -183,7 +183,7 @@ impl<D: Digester, F> Ctl<D, F> {
     }
 }
 
-/// Writes the places of a word's path.
+// Writes the places of a word's path.
 fn write_path(memory: &mut Dram, zones: u8, page: u32, block: u8, path: &NewPath)
     requires few { zones ≤ 64 }
     requires page { page < 64 * zones }

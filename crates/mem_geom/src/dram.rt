@@ -84,7 +84,7 @@ impl Dram {
     }
 }
 
-/// How many bytes the memory of so many zones has.
+// How many bytes the memory of so many zones has.
 fn memory_size(zones: u8) -> usize
     ensures { result ≡ memory_size zones }
 {

@@ -53,7 +53,7 @@ pub fn page_start(page: u32) -> u64
     MEMORY_START + PAGE_BYTES * u64::from(page)
 }
 
-/// The address of a zone's first node, or of the root table for a zone past the last.
+// The address of a zone's first node, or of the root table for a zone past the last.
 fn nodes_start(zones: u8, zone: u8) -> u64
     ensures { result ≡ nodes_start zones zone }
 {
@@ -67,7 +67,7 @@ pub fn memory_end(zones: u8) -> u64
     nodes_start(zones, zones) + TABLE_BYTES
 }
 
-/// The number of a node among those of its zone.
+// The number of a node among those of its zone.
 fn node_number(level: u8, index: u16) -> u32
     requires { index < nodes_of_level level }
     ensures { result ≡ nodes_before_level level + index }
@@ -81,7 +81,7 @@ fn node_number(level: u8, index: u16) -> u32
     before + u32::from(index)
 }
 
-/// The number of a node among those of the root table.
+// The number of a node among those of the root table.
 fn root_node_number(level: u8, index: u8) -> u32
     requires { index < root_nodes_of_level level }
     ensures { result ≡ root_nodes_before_level level + index }

@@ -101,7 +101,7 @@ impl Slots {
     }
 }
 
-/// Counts one use more of a zone.
+// Counts one use more of a zone.
 fn count_use(uses: &mut [SlotUse], zone: u8)
     ensures { uses.new ≡ map (used_use zone) uses.old }
 {
@@ -123,7 +123,7 @@ fn with_use(slot: SlotUse, zone: u8) -> SlotUse
     }
 }
 
-/// The root of a zone: it stands where the zone does.
+// The root of a zone: it stands where the zone does.
 fn root_in(uses: &[SlotUse], roots: &[[u8; 32]], zone: u8) -> Option<[u8; 32]>
     requires { length roots.now ≡ length uses.now }
     ensures { result ≡ root_of (slots_of uses.now roots.now) zone }
@@ -136,7 +136,7 @@ fn root_in(uses: &[SlotUse], roots: &[[u8; 32]], zone: u8) -> Option<[u8; 32]>
     None
 }
 
-/// Puts another root where the zone stands.
+// Puts another root where the zone stands.
 fn put_root(uses: &[SlotUse], roots: &mut [[u8; 32]], zone: u8, root: &[u8; 32])
     requires { length roots.old ≡ length uses.now }
     ensures { slots_of uses.now roots.new ≡ map (rooted_slot zone root.now) (slots_of uses.now roots.old) }

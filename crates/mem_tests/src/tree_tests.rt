@@ -42,7 +42,7 @@ const ROOT_AFTER: [u8; 32] = [
     0x97, 0x1d, 0xf2, 0x55, 0xae, 0xe4, 0xb8, 0x73, 0x45, 0x62, 0x01, 0xc2, 0x5d, 0xa3, 0x3e, 0x7e,
 ];
 
-/// The path of block 13 of page 37 of zone 3, where all pages are zero.
+// The path of block 13 of page 37 of zone 3, where all pages are zero.
 fn zero_path() -> Taken<Sha>
     ensures page { result.page ≡ 229 }
     ensures block { result.block_no ≡ 13 }

@@ -107,7 +107,7 @@ fn fill(list: &mut Bounded<u32, MOST_SPARES>, spares: &[u32])
 impl Enclave {
     ghost use Rattle.mon_enclave.specs.Records.{IsEnclave, built, forked, free_enclave, freed, has_room, is_shared_at, next_spare, received_word, send_refusal, take_refusal, taken_word, with_own_page, with_spare};
 
-    // The record of a free number, with room for all that it may hold.
+    /// The record of a free number, with room for all that it may hold.
     pub(crate) fn new(alloc: Global) -> Result<Enclave, AllocError>
         ensures { IfOk result (λ enclave. enclave ≡ free_enclave) }
     {
@@ -236,7 +236,7 @@ impl Enclave {
         true
     }
 
-    // Begins to build it as a fork of shadow `s`, with this image and these registers, and no page yet.
+    /// Begins to build it as a fork of shadow `s`, with this image and these registers, and no page yet.
     pub(crate) fn begin_fork(&mut self, s: EncNo, image: u8, context: Context, spares: &[u32])
         requires { length spares.now ≤ 256 }
         ensures { self.new ≡ forked s (record self.old { image = image; pages = []; context = context }) spares.now self.old }
@@ -250,7 +250,7 @@ impl Enclave {
         self.parent = Some(s);
     }
 
-    // It shares one more page.
+    /// It shares one more page.
     pub(crate) fn share(&mut self, page: u32)
         requires { length self.old.pages < 256 }
         ensures { self.new ≡ record self.old { pages = self.old.pages ++ PageKind.Shared page ∷ [] } }

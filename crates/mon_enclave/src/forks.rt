@@ -73,7 +73,7 @@ fn share_pages(all: &mut [Enclave], s: EncNo, e: EncNo)
     }
 }
 
-// A record is built as a fork of another one.
+/// A record is built as a fork of another one.
 pub(crate) fn fork_in(all: &mut [Enclave], s: EncNo, e: EncNo, spares: &[u32])
     requires shadow { s.0 < length all.old }
     requires number { e.0 < length all.old }

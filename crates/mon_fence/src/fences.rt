@@ -8,7 +8,7 @@ use arrayvec::ArrayVec;
 use pl_base::{HartNo, HartSet, Space, Vpn};
 use std::marker::Model;
 
-/// How many harts there are at most.
+// How many harts there are at most.
 const MOST_HARTS: usize = 8;
 
 /// A mapping that is taken away, and the harts whose acknowledgement is lacking.
@@ -155,7 +155,7 @@ impl Fences {
     }
 }
 
-/// Whether a fence needs a hart.
+// Whether a fence needs a hart.
 fn has_need(fence: &Option<Fence>, h: HartNo) -> bool
     requires { h.0 < 8 }
     ensures { result ≡ needs fence.now h.0 }
@@ -166,7 +166,7 @@ fn has_need(fence: &Option<Fence>, h: HartNo) -> bool
     }
 }
 
-/// Whether a fence is of this page of this space, or of the whole space.
+// Whether a fence is of this page of this space, or of the whole space.
 fn is_over(fence: &Option<Fence>, space: Space, vpn: Vpn) -> bool
     ensures { result ≡ covers space vpn fence.now }
 {

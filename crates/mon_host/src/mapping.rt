@@ -53,7 +53,7 @@ pub fn map<D: Digester, F: Fn(&[SlotUse]) -> usize>(
     Ok(())
 }
 
-/// Why a page isn't mapped where this word stands.
+// Why a page isn't mapped where this word stands.
 fn map_refusal(owners: &Owners, page: u32, word: u64) -> Option<No>
     ensures { result ≡ map_refusal owners.now page word }
 {
@@ -66,7 +66,7 @@ fn map_refusal(owners: &Owners, page: u32, word: u64) -> Option<No>
     None
 }
 
-/// Whether the owner is the host. A page past the pool has none.
+// Whether the owner is the host. A page past the pool has none.
 fn is_host(owner: Option<Owner>) -> bool
     ensures { result ≡ is_host (unwrap_or owner Owner.Guard) }
 {

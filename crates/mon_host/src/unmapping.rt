@@ -21,13 +21,13 @@ use mon_owner::Owners;
 use pl_base::{HartNo, No, PAGE_BYTES, Space, Va};
 use pl_digest::Digester;
 
-/// The physical page number of page 0 of off-chip memory.
+// The physical page number of page 0 of off-chip memory.
 const FIRST_PPN: u64 = MEMORY_START / PAGE_BYTES;
 
-/// A leaf's page number stands from bit 10 on.
+// A leaf's page number stands from bit 10 on.
 const PPN_BIT: u32 = 10;
 
-/// One past the last physical page number.
+// One past the last physical page number.
 const PPN_END: u64 = 1 << 44;
 
 /// Takes the mapping at an address away, and posts the hart's fence of it. The answer is the page, which stays counted as mapped.
@@ -64,7 +64,7 @@ pub fn unmap_begin<D: Digester, F: Fn(&[SlotUse]) -> usize>(
     Ok(page_of_leaf(word))
 }
 
-/// The page that a leaf names.
+// The page that a leaf names.
 fn page_of_leaf(word: u64) -> u32
     requires inside { ppn_of_page 0 ≤ ppn_of word }
     requires small { ppn_of word < ppn_of_page (2 ^ 32) }

@@ -87,7 +87,7 @@ pub fn held_by(enclaves: &Enclaves, e: EncNo) -> ArrayVec<u32, MOST_HELD>
     pages
 }
 
-/// The pages in a list that are a number's own.
+// The pages in a list that are a number's own.
 fn own_pages(kinds: &[PageKind]) -> ArrayVec<u32, MOST_HELD>
     requires { length kinds.now ≤ 256 }
     ensures pages { result.items ≡ filter_map page_if_own kinds.now }

@@ -53,7 +53,7 @@ pub fn taker(e: EncNo, shadow: bool) -> Owner
     }
 }
 
-/// Why a number can't be made of an image and these pages.
+// Why a number can't be made of an image and these pages.
 fn create_refusal(
     owners: &Owners,
     enclaves: &Enclaves,
@@ -97,7 +97,7 @@ pub fn page_refusal(owners: &Owners, pmp: &Pmp, pages: &[u32]) -> Option<No>
     first_barred(pmp, pages).map(No::Barred)
 }
 
-/// The first page in a list that isn't the host's.
+// The first page in a list that isn't the host's.
 fn first_not_host(owners: &Owners, pages: &[u32]) -> Option<u32>
     ensures { result ≡ first_not_host owners.now pages.now }
 {
@@ -107,7 +107,7 @@ fn first_not_host(owners: &Owners, pages: &[u32]) -> Option<u32>
         .find(|page| !is_host(owners.of(*page)))
 }
 
-/// The first page in a list that is mapped.
+// The first page in a list that is mapped.
 fn first_mapped(owners: &Owners, pages: &[u32]) -> Option<u32>
     ensures { result ≡ first_mapped owners.now pages.now }
 {
@@ -117,21 +117,21 @@ fn first_mapped(owners: &Owners, pages: &[u32]) -> Option<u32>
         .find(|page| is_mapped(owners.of(*page)))
 }
 
-/// The first page in a list that the protection entries don't leave open.
+// The first page in a list that the protection entries don't leave open.
 fn first_barred(pmp: &Pmp, pages: &[u32]) -> Option<u32>
     ensures { result ≡ first_barred pmp.now pages.now }
 {
     pages.iter().copied().find(|page| !pmp.page_allowed(*page))
 }
 
-/// Whether the owner is the host. A page past the pool has none.
+// Whether the owner is the host. A page past the pool has none.
 fn is_host(owner: Option<Owner>) -> bool
     ensures { result ≡ is_host (unwrap_or owner Owner.Guard) }
 {
     matches!(owner, Some(Owner::Host { .. }))
 }
 
-/// Whether the owner is the host, with mappings.
+// Whether the owner is the host, with mappings.
 fn is_mapped(owner: Option<Owner>) -> bool
     ensures { result ≡ is_mapped (unwrap_or owner Owner.Guard) }
 {

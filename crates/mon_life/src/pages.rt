@@ -47,7 +47,7 @@ pub(crate) fn put_page_at<D: Digester, F: Fn(&[SlotUse]) -> usize>(
     put_table(ctl, kinds, e, pages, tables, 2 - (at - pages.len()) as u8)
 }
 
-/// Puts a table of a number with these pages: 2 the root, 1 the middle, 0 the last.
+// Puts a table of a number with these pages: 2 the root, 1 the middle, 0 the last.
 fn put_table<D: Digester, F: Fn(&[SlotUse]) -> usize>(
     ctl: &mut Ctl<D, F>,
     kinds: &[PageKind],
@@ -73,7 +73,7 @@ fn put_table<D: Digester, F: Fn(&[SlotUse]) -> usize>(
     ctl.put_page(table_number(tables, e, level), &bytes)
 }
 
-/// The leaves of a number with these pages, in the image's order.
+// The leaves of a number with these pages, in the image's order.
 fn leaves_of(kinds: &[PageKind], image: &[ImagePage]) -> ArrayVec<Leaf, MOST_IMAGE_PAGES>
     requires count { length kinds.now ≡ length image.now }
     requires few { length image.now ≤ 256 }
@@ -86,7 +86,7 @@ fn leaves_of(kinds: &[PageKind], image: &[ImagePage]) -> ArrayVec<Leaf, MOST_IMA
     leaves
 }
 
-/// The leaf of a page of an image: a shared page may not be written.
+// The leaf of a page of an image: a shared page may not be written.
 fn leaf_for(kind: PageKind, perms: Perms) -> Leaf
     ensures { result ≡ leaf_for kind perms }
 {
@@ -99,7 +99,7 @@ fn leaf_for(kind: PageKind, perms: Perms) -> Leaf
     }
 }
 
-/// Permissions without W.
+// Permissions without W.
 fn without_write(perms: Perms) -> Perms
     ensures { result ≡ without_write perms }
 {

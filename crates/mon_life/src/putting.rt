@@ -53,7 +53,7 @@ pub fn create_step<D: Digester, F: Fn(&[SlotUse]) -> usize>(
     }
 }
 
-/// Whether step `at` was the last; then the number is made.
+// Whether step `at` was the last; then the number is made.
 fn finish(enclaves: &mut Enclaves, e: EncNo, shadow: bool, at: u32, image: &Image) -> bool
     requires number { e.0 < length enclaves.old }
     requires at { at < steps_of shadow (length image.now.pages) }
@@ -67,7 +67,7 @@ fn finish(enclaves: &mut Enclaves, e: EncNo, shadow: bool, at: u32, image: &Imag
     last
 }
 
-/// How many pages the line puts, counted from the image's first.
+// How many pages the line puts, counted from the image's first.
 fn steps_of(shadow: bool, image_pages: usize) -> usize
     requires { image_pages ≤ 256 }
     ensures { result ≡ steps_of shadow image_pages }
@@ -75,7 +75,7 @@ fn steps_of(shadow: bool, image_pages: usize) -> usize
     if shadow { image_pages } else { image_pages + 3 }
 }
 
-/// The state of a number that is made.
+// The state of a number that is made.
 fn made_state(shadow: bool) -> State
     ensures { result ≡ made_state shadow }
 {

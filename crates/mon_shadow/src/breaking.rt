@@ -58,7 +58,7 @@ pub fn break_page<D: Digester, F: Fn(&[SlotUse]) -> usize>(
     Ok(())
 }
 
-/// A shared page is the number's own, and the hart posts a fence of its address.
+// A shared page is the number's own, and the hart posts a fence of its address.
 fn take_spare(enclaves: &mut Enclaves, fences: &mut Fences, h: HartNo, e: EncNo, index: u32)
     requires number { e.0 < length enclaves.old }
     requires hart { h.0 < length fences.old }
@@ -72,7 +72,7 @@ fn take_spare(enclaves: &mut Enclaves, fences: &mut Fences, h: HartNo, e: EncNo,
     fences.post(h, Space::of_number(e), Some(vpn_of_page(index)));
 }
 
-/// Reads a page and puts its bytes into another one, to which the leaf of page `index` of the number then leads.
+// Reads a page and puts its bytes into another one, to which the leaf of page `index` of the number then leads.
 fn copy_page<D: Digester, F: Fn(&[SlotUse]) -> usize>(
     ctl: &mut Ctl<D, F>,
     tables: u8,
@@ -102,7 +102,7 @@ fn copy_page<D: Digester, F: Fn(&[SlotUse]) -> usize>(
     ctl.write_part(table, offset, 8, leaf_word(spare, perms, Mode::User))
 }
 
-/// The number of page `index`.
+// The number of page `index`.
 fn page_number_at(pages: &[PageKind], index: u32) -> u32
     requires { index < length pages.now }
     ensures { result ≡ page_number_at pages.now index }

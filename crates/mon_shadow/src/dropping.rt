@@ -42,7 +42,7 @@ pub fn drop_shadow<D: Digester, F>(
     Ok(())
 }
 
-/// Why a shadow can't be given back.
+// Why a shadow can't be given back.
 fn drop_refusal(enclaves: &Enclaves, s: EncNo) -> Option<No>
     requires { s.0 < length enclaves.now }
     ensures { result ≡ drop_refusal_of enclaves.now s.0 }
@@ -53,7 +53,7 @@ fn drop_refusal(enclaves: &Enclaves, s: EncNo) -> Option<No>
     first_child(enclaves, s).map(No::InUse)
 }
 
-/// The lowest number that was forked from a shadow.
+// The lowest number that was forked from a shadow.
 fn first_child(enclaves: &Enclaves, s: EncNo) -> Option<EncNo>
     ensures { option_map (λ (child : EncNo). child.0) result ≡ first_child_of enclaves.now s.0 }
 {
@@ -65,7 +65,7 @@ fn first_child(enclaves: &Enclaves, s: EncNo) -> Option<EncNo>
     None
 }
 
-/// Whether a number was forked from a shadow.
+// Whether a number was forked from a shadow.
 fn is_child(enclaves: &Enclaves, child: EncNo, s: EncNo) -> bool
     requires { child.0 < length enclaves.now }
     ensures { result ≡ is_child_of s.0 (enclave_at enclaves.now child.0) }

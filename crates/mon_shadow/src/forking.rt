@@ -39,7 +39,7 @@ pub fn fork_begin(
     Ok(())
 }
 
-/// Why a number can't be forked from a shadow with these spares.
+// Why a number can't be forked from a shadow with these spares.
 fn fork_refusal(
     owners: &Owners,
     enclaves: &Enclaves,

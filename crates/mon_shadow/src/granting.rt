@@ -35,7 +35,7 @@ pub fn grant(
     Ok(())
 }
 
-/// Why a number can't be given a page as a spare.
+// Why a number can't be given a page as a spare.
 fn grant_refusal(owners: &Owners, enclaves: &Enclaves, pmp: &Pmp, e: EncNo, page: u32) -> Option<No>
     requires { e.0 < length enclaves.now }
     ensures { result ≡ grant_refusal_of owners.now enclaves.now pmp.now e.0 page }

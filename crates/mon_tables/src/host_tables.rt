@@ -7,10 +7,10 @@ use crate::words::{WORD_BYTES, pointer_word, ppn_of_page};
 use arrayvec::ArrayVec;
 use pl_base::{Ppn, Space, Vpn};
 
-/// How many words of a table there are.
+// How many words of a table there are.
 const TABLE_WORDS: u64 = 512;
 
-/// How many words the guarded pages have at the start, at most: one for the middle table, and one for each last-level table.
+// How many words the guarded pages have at the start, at most: one for the middle table, and one for each last-level table.
 const MOST_START_WORDS: usize = 33;
 
 /// Page and offset of the host's leaf word of a virtual page number, where there are so many last-level tables. None exactly where the number

@@ -8,7 +8,7 @@ use crate::words::{WORD_BYTES, leaf_word, pointer_word};
 use byteorder::{ByteOrder, LittleEndian};
 use pl_base::{EncNo, IMAGE_START, Mode, PAGE_BYTES, Perms, Vpn};
 
-/// The word of an image's first page: its virtual page number.
+// The word of an image's first page: its virtual page number.
 const FIRST_LEAF: usize = (IMAGE_START / PAGE_BYTES) as usize;
 
 /// The virtual page number of page `index` of an image.
@@ -49,7 +49,7 @@ fn table_words(tables: u8, e: EncNo, level: u8, leaves: &[Leaf]) -> [u64; 512]
     }
 }
 
-/// The words of a table whose first word points to the table in a page.
+// The words of a table whose first word points to the table in a page.
 fn pointing_words(page: u32) -> [u64; 512]
     ensures { result ≡ pointing_words page }
 {
@@ -75,7 +75,7 @@ pub fn number_slot(tables: u8, e: EncNo, index: u32) -> (u32, u16)
     (table_number(tables, e, 0), WORD_BYTES * word)
 }
 
-/// The words of a last table: the leaves stand from word 16 on, the page number of an image's first page.
+// The words of a last table: the leaves stand from word 16 on, the page number of an image's first page.
 fn leaf_words(leaves: &[Leaf]) -> [u64; 512]
     requires few { length leaves.now ≤ 256 }
     requires perms { All (λ leaf. IsTrue (are_page_perms leaf.perms)) leaves.now }

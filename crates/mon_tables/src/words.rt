@@ -10,10 +10,10 @@ use rv_sv39::{A, D, U, V};
 /// The bytes of a word.
 pub(crate) const WORD_BYTES: u16 = 8;
 
-/// The physical page number of page 0 of off-chip memory.
+// The physical page number of page 0 of off-chip memory.
 const FIRST_PPN: u64 = MEMORY_START / PAGE_BYTES;
 
-/// The page number stands from bit 10 on.
+// The page number stands from bit 10 on.
 const PPN_UNIT: u64 = 1 << 10;
 
 /// The physical page number of a page.

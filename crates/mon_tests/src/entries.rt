@@ -2,7 +2,7 @@
 use rv_pmp::{Pmp, Rule};
 use std::process::Abort;
 
-// The entries of one zone with nine guarded pages, in which the rule of entry 2 bars writing in page 21.
+/// The entries of one zone with nine guarded pages, in which the rule of entry 2 bars writing in page 21.
 pub(crate) fn entries(rt: &impl Abort) -> Pmp {
     let mut rules = [Rule::default(); 16];
     for (i, cfg, addr) in [

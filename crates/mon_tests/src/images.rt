@@ -6,7 +6,7 @@ use pl_base::Perms;
 use std::alloc::{AllocError, Global};
 use std::process::Abort;
 
-// A page that begins with these bytes and is then zero.
+/// A page that begins with these bytes and is then zero.
 pub(crate) fn page(alloc: Global, perms: Perms, front: &[u8]) -> Result<ImagePage, AllocError>
     requires { length front.now ≤ 4096 }
 {
@@ -18,7 +18,7 @@ pub(crate) fn page(alloc: Global, perms: Perms, front: &[u8]) -> Result<ImagePag
     })
 }
 
-// An image of zeros: a page for each of `perms`, 1 to 4.
+/// An image of zeros: a page for each of `perms`, 1 to 4.
 pub(crate) fn image(
     rt: &impl Abort,
     alloc: Global,

@@ -8,7 +8,7 @@ use pl_base::Memory;
 use pl_digest::OneByte;
 use std::alloc::Global;
 
-// The slot that was mounted first.
+/// The slot that was mounted first.
 pub(crate) fn oldest(slots: &[SlotUse]) -> usize
     requires { 0 < length slots.now }
     ensures { result ≡ 0 }
@@ -16,7 +16,7 @@ pub(crate) fn oldest(slots: &[SlotUse]) -> usize
     first_mounted(slots)
 }
 
-// One zone, with nothing in it.
+/// One zone, with nothing in it.
 pub(crate) fn zone<F: Fn(&[SlotUse]) -> usize>(
     alloc: Global,
     choice: Choice<F>,
@@ -29,7 +29,7 @@ pub(crate) fn zone<F: Fn(&[SlotUse]) -> usize>(
     Ok(ctl)
 }
 
-// A word is written at the end of a page.
+/// A word is written at the end of a page.
 pub(crate) fn write<F>(ctl: &mut Ctl<OneByte, F>, page: u32)
     requires zone { ctl.old.0.zones ≡ 1 }
     requires page { page < 64 }
@@ -38,7 +38,7 @@ pub(crate) fn write<F>(ctl: &mut Ctl<OneByte, F>, page: u32)
     ctl.raw_write(page, 4088, 9);
 }
 
-// The words at the end of three pages.
+/// The words at the end of three pages.
 pub(crate) fn words<F>(ctl: &Ctl<OneByte, F>) -> [u64; 3]
     requires { ctl.now.0.zones ≡ 1 }
 {

@@ -21,12 +21,12 @@ use std::alloc::Global;
 use world_core::World;
 use world_machine::Finished;
 
-// What is printed of a run's history, before the report.
+/// What is printed of a run's history, before the report.
 #[derive(Clone, Copy)]
 pub(crate) enum Printed {
-    // Each entry, in a line.
+    /// Each entry, in a line.
     History,
-    // How many lines were answered and words taken, and the exclusive or of these words.
+    /// How many lines were answered and words taken, and the exclusive or of these words.
     Summary,
 }
 
@@ -122,7 +122,7 @@ fn play_and_print<D: Digester, K: Sink, F: Fn(&[SlotUse]) -> usize>(
     }
 }
 
-// A run of a setup, and what is printed of it. Where no world can be made, nothing is written.
+/// A run of a setup, and what is printed of it. Where no world can be made, nothing is written.
 pub(crate) fn run_and_print<D: Digester, K: Sink, F: Fn(&[SlotUse]) -> usize + Drop>(
     alloc: Global,
     digester: D,

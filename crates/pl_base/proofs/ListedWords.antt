@@ -1,5 +1,5 @@
 -- Listed words of some pages are those of more pages too.
-use Rattle.std.proofs.Common.{ℕ, ◌≤◌, List, get_or, arith}
+use Rattle.std.proofs.Common.{ℕ, ◌≤◌, List, arith}
 use Rattle.pl_base.specs.ListedWords.{AreWordsOf}
 
 pub AreWordsOf-more : (few many : ℕ) (words : List (ℕ × ℕ × ℕ)) → few ≤ many → AreWordsOf few words → AreWordsOf many words

@@ -135,7 +135,7 @@ fn more_bytes_than_the_limit_are_too_long(rt: HostRuntime) -> Result<(), Fail> {
     Ok(())
 }
 
-/// A reader whose reads fail.
+// A reader whose reads fail.
 #[derive(Drop)]
 struct Broken;
 

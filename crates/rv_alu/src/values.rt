@@ -60,7 +60,7 @@ fn mulhu(a: u64, b: u64) -> u64
     ((u128::from(a) * u128::from(b)) >> 64) as u64
 }
 
-/// Bits 127:64 of a product.
+// Bits 127:64 of a product.
 fn upper_half(product: i128) -> u64
     ensures { result ≡ upper_half product }
 {

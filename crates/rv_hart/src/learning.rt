@@ -47,7 +47,7 @@ pub fn learn(
     }
 }
 
-/// The level of the table that a walk stands at.
+// The level of the table that a walk stands at.
 fn level_of(walk: &Walk) -> u8
     requires { IsWalk walk.now }
     ensures level { result ≡ level_of walk.now }

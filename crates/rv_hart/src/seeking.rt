@@ -41,7 +41,7 @@ pub fn seek(walk: &Walk, va: Va, kind: Kind, tlb: &Tlb, view: &View) -> Sought
     }
 }
 
-/// The access by the TLB's entry, and without one the word of a table.
+// The access by the TLB's entry, and without one the word of a table.
 fn seek_table(level: u8, table: Ppn, va: Va, kind: Kind, tlb: &Tlb, view: &View) -> Sought
     requires level { level < 3 }
     requires table { IsPpn table }
@@ -56,7 +56,7 @@ fn seek_table(level: u8, table: Ppn, va: Va, kind: Kind, tlb: &Tlb, view: &View)
     }
 }
 
-/// The access through a translation, where that permits its kind.
+// The access through a translation, where that permits its kind.
 fn through(ppn: Ppn, perms: Perms, va: Va, kind: Kind) -> Sought
     requires { IsPpn ppn }
     ensures { result ≡ sought_through ppn perms va kind }

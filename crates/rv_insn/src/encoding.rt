@@ -60,7 +60,7 @@ fn fields(insn: Insn) -> Fields
     }
 }
 
-/// The U and J formats: `top` is bits 31:12.
+// The U and J formats: `top` is bits 31:12.
 fn upper(opcode: u32, rd: u8, top: u32) -> Fields
     ensures { (word : ℕ) → (fields_of word).opcode ≡ opcode → (fields_of word).rd ≡ rd → bits word 31 12 ≡ top % 2 ^ 20 → result ≡ fields_of word }
 {
@@ -74,7 +74,7 @@ fn upper(opcode: u32, rd: u8, top: u32) -> Fields
     }
 }
 
-/// The I format: `low` has the immediate in its low 12 bits.
+// The I format: `low` has the immediate in its low 12 bits.
 fn immediate(opcode: u32, funct3: u32, rd: u8, rs1: u8, low: u32) -> Fields
     ensures { (word : ℕ) → (fields_of word).opcode ≡ opcode → (fields_of word).funct3 ≡ funct3 → (fields_of word).rd ≡ rd → (fields_of word).rs1 ≡ rs1 → bits word 31 20 ≡ low % 2 ^ 12 → result ≡ fields_of word }
 {
@@ -122,7 +122,7 @@ fn jump(rd: u8, offset: i32) -> Fields
     upper(0x6f, rd, jump_bits(offset.cast_unsigned()))
 }
 
-/// Bits 31:12 of a jump by this offset.
+// Bits 31:12 of a jump by this offset.
 fn jump_bits(offset: u32) -> u32
     ensures { result ≡ bits offset 20 20 * 2 ^ 19 + bits offset 10 1 * 2 ^ 9 + bits offset 11 11 * 2 ^ 8 + bits offset 19 12 }
 {

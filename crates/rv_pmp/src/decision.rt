@@ -9,7 +9,7 @@ ghost use Rattle.rv_pmp.specs.Pmp.{permits_after};
 use crate::rule::Rule;
 use pl_base::{Kind, PAGE_BYTES, Span};
 
-/// The bytes of the pieces that a page is looked at in.
+// The bytes of the pieces that a page is looked at in.
 const PIECE: u64 = 8;
 
 /// Whether the rules let an access through.
@@ -46,7 +46,7 @@ pub fn page_is_open(rules: &[Rule], start: u64) -> bool
     true
 }
 
-/// Up to where one rule lets all accesses through, from the piece at `at` on; `None` where it bars that piece.
+// Up to where one rule lets all accesses through, from the piece at `at` on; `None` where it bars that piece.
 fn open_until(rules: &[Rule], at: u64, end: u64) -> Option<u64>
     requires valid { AllPass is_valid rules.now }
     requires aligned { (at % 8 ≡ 0) × (end % 8 ≡ 0) }
@@ -75,7 +75,7 @@ fn open_until(rules: &[Rule], at: u64, end: u64) -> Option<u64>
     None
 }
 
-/// Up to where a range that leaves the piece at `at` free leaves the addresses from there on free, at most to `end`.
+// Up to where a range that leaves the piece at `at` free leaves the addresses from there on free, at most to `end`.
 fn free_until(range: Span, at: u64, end: u64) -> u64
     requires apart { IsFalse (overlaps range (span at (at + 8))) }
     requires piece { at + 8 ≤ end }
@@ -90,7 +90,7 @@ fn free_until(range: Span, at: u64, end: u64) -> u64
     }
 }
 
-/// Whether a rule that decides on a piece by this range lets it through for all three kinds.
+// Whether a rule that decides on a piece by this range lets it through for all three kinds.
 fn opens(rule: &Rule, range: Span, piece: Span) -> bool
     ensures { result ≡ (covers range piece && grants_each (perms_of rule.now)) }
 {

@@ -28,7 +28,7 @@ pub struct Rule {
 }
 
 impl Rule {
-    /// The end of the registers: they have 54 bits.
+    // The end of the registers: they have 54 bits.
     const ADDR_END: u64 = 1 << 54;
 
     /// Whether bits 6:5 of `cfg` are zero, W does not stand without R, and `addr` is below 2^54.
@@ -81,7 +81,7 @@ impl Rule {
     }
 }
 
-/// The naturally aligned range that a register names by its trailing ones.
+// The naturally aligned range that a register names by its trailing ones.
 fn aligned(addr: u64) -> Span
     requires { addr < 2 ^ 54 }
     ensures { result ≡ aligned_span addr }

@@ -4,7 +4,7 @@ ghost use Rattle.rv_sv39.specs.Canonical.{is_canonical, ExtendsBit38};
 
 use pl_base::Va;
 
-/// The ones that bits 63:38 of an address may be.
+// The ones that bits 63:38 of an address may be.
 const ALL_ONES: u64 = (1 << 26) - 1;
 
 /// Whether bits 63:39 of an address equal bit 38.

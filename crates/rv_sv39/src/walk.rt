@@ -21,7 +21,7 @@ pub enum Walked {
     PageFault,
 }
 
-/// The bytes of a word of a table.
+// The bytes of a word of a table.
 const ENTRY_BYTES: u64 = 8;
 
 /// The address of the word that a page number selects in a table at `level` (2, 1 or 0).

@@ -25,13 +25,13 @@ pub const A: u32 = 6;
 /// The page was written.
 pub const D: u32 = 7;
 
-/// The lowest bit of the page number.
+// The lowest bit of the page number.
 const PPN: u32 = 10;
 
-/// The numbers of 44 bits end here.
+// The numbers of 44 bits end here.
 const PPN_END: u64 = 1 << 44;
 
-/// The bits of the page number end here, and those above are zero.
+// The bits of the page number end here, and those above are zero.
 const RESERVED: u32 = 54;
 
 /// Whether a word has a bit.
@@ -108,7 +108,7 @@ pub fn page_of(level: u8, word: u64, vpn: Vpn) -> Ppn
     Ppn(ppn_of(word) / span * span + vpn.0 % span)
 }
 
-/// How many pages a word of the level spans.
+// How many pages a word of the level spans.
 fn span_of(level: u8) -> u64
     requires { level < 3 }
     ensures { result ≡ 2 ^ (9 * level) }

@@ -9,7 +9,7 @@ use rv_hart::{PageFault, Sought, View, Walk, learn, repeated_steps_translate, se
 use rv_tlb::{Tlb, TlbEntry};
 use std::process::Abort;
 
-/// Three fields of nine bits, 1, 2 and 3, and the offset 0x45.
+// Three fields of nine bits, 1, 2 and 3, and the offset 0x45.
 const VA: u64 = (1 << 30) + (2 << 21) + (3 << 12) + 0x45;
 
 const VPN: Vpn = Vpn((1 << 18) + (2 << 9) + 3);
@@ -43,7 +43,7 @@ fn at(pa: u64) -> Sought {
     Sought::At { pa: Pa(pa) }
 }
 
-/// A TLB with one entry, which may be read and executed.
+// A TLB with one entry, which may be read and executed.
 fn with_one(space: u16, vpn: Vpn) -> Tlb {
     let mut tlb = Tlb::new();
     tlb.put(TlbEntry {
@@ -114,7 +114,7 @@ fn check_seek(
     assert_eq!(rt; seek(walk, va, kind, tlb, &USER), expected, "case {i}");
 }
 
-/// Whether a walk has a level and page numbers as `seek` and `learn` take them.
+// Whether a walk has a level and page numbers as `seek` and `learn` take them.
 fn is_walk(walk: &Walk) -> bool
     ensures { IsTrue result → IsWalk walk.now }
 {
@@ -163,7 +163,7 @@ fn what_a_word_teaches_at_each_level(rt: HostRuntime) {
     }
 }
 
-/// A leaf that was found is in the TLB, and nothing else.
+// A leaf that was found is in the TLB, and nothing else.
 fn check_learn(
     rt: &impl Abort,
     i: usize,

@@ -20,12 +20,12 @@ const ALL: u8 = R | W | X;
 
 const OFF: (u8, u64) = (0, 0);
 
-/// The register that holds bits 55:2 of an address.
+// The register that holds bits 55:2 of an address.
 const fn at(address: u64) -> u64 {
     address >> 2
 }
 
-/// Up to four rules, and OFF after them.
+// Up to four rules, and OFF after them.
 fn with_rules(rt: &impl Abort, first: [(u8, u64); 4]) -> Pmp {
     let mut rules = [Rule::default(); 16];
     for (i, (cfg, addr)) in first.iter().enumerate() {

@@ -11,7 +11,7 @@ const G: u64 = 1 << 5;
 
 const RSW: u64 = 3 << 8;
 
-/// Three fields of nine bits: 1, 2 and 3.
+// Three fields of nine bits: 1, 2 and 3.
 const PAGE: Vpn = Vpn((1 << 18) + (2 << 9) + 3);
 
 #[test]

@@ -3,7 +3,7 @@ use pl_base::{Perms, Ppn, Space, Vpn};
 use rv_tlb::{Tlb, TlbEntry};
 use std::process::Abort;
 
-/// The entry of a page of a space, at a physical page that tells both apart.
+// The entry of a page of a space, at a physical page that tells both apart.
 fn entry(space: u16, vpn: u16) -> TlbEntry {
     TlbEntry {
         space: Space(space),
@@ -19,7 +19,7 @@ fn put(rt: &impl Abort, tlb: &mut Tlb, entry: TlbEntry) {
     tlb.put(entry);
 }
 
-/// Whether exactly these pages of spaces 0 and 1 are found, among the first twenty of each.
+// Whether exactly these pages of spaces 0 and 1 are found, among the first twenty of each.
 fn holds(tlb: &Tlb, first: &[u16], second: &[u16]) -> bool {
     (0..20).all(|vpn| {
         let at = Vpn(u64::from(vpn));

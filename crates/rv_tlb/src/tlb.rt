@@ -5,7 +5,7 @@ use arrayvec::ArrayVec;
 use pl_base::{Perms, Ppn, Space, Vpn};
 use std::marker::Model;
 
-/// How many entries there are at most.
+// How many entries there are at most.
 const ROOM: usize = 16;
 
 /// What a leaf of a space's tables says of one page.

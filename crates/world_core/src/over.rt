@@ -11,7 +11,7 @@ use pl_history::SetupParts;
 use world_events::{Attack, Due, Machine};
 use world_machine::{Finished, Under};
 
-/// How many lines an actor has.
+// How many lines an actor has.
 fn line_count(setup: &SetupParts, actor: u8) -> usize
     requires scripts { length setup.now.lines ≡ setup.now.harts }
     requires actor { actor ≤ setup.now.harts }
@@ -23,7 +23,7 @@ fn line_count(setup: &SetupParts, actor: u8) -> usize
     setup.lines.as_slice()[usize::from(actor)].len()
 }
 
-/// Whether a line that hasn't begun waits, or there is none.
+// Whether a line that hasn't begun waits, or there is none.
 fn waits_still<D: Digester, F>(machine: &Machine<D, F>, due: Due) -> bool
     ensures { result ≡ waits_still machine.now.0 due }
 {
@@ -45,7 +45,7 @@ fn waits_still<D: Digester, F>(machine: &Machine<D, F>, due: Due) -> bool
     }
 }
 
-/// Whether a line, so far, has no event.
+// Whether a line, so far, has no event.
 fn due_still<D: Digester, F>(machine: &Machine<D, F>, due: Due, under: Under) -> bool
     ensures { result ≡ due_still machine.now.0 due under }
 {
@@ -63,7 +63,7 @@ fn due_still<D: Digester, F>(machine: &Machine<D, F>, due: Due, under: Under) ->
     }
 }
 
-/// Whether a line of the attacker waits, or there is none.
+// Whether a line of the attacker waits, or there is none.
 fn attack_still<D: Digester, F>(machine: &Machine<D, F>, line: Attack) -> bool
     ensures { result ≡ attack_still machine.now.0 line }
 {
@@ -74,7 +74,7 @@ fn attack_still<D: Digester, F>(machine: &Machine<D, F>, line: Attack) -> bool
     }
 }
 
-/// Whether a hart has no event.
+// Whether a hart has no event.
 fn hart_still<D: Digester, F>(machine: &Machine<D, F>, hart: HartNo) -> bool
     requires lengths { HasLengths machine.now.0 }
     requires hart { hart.0 < machine.now.0.setup.harts }
@@ -85,7 +85,7 @@ fn hart_still<D: Digester, F>(machine: &Machine<D, F>, hart: HartNo) -> bool
     due_still(machine, due, under)
 }
 
-/// Whether no fence needs a hart's acknowledgement.
+// Whether no fence needs a hart's acknowledgement.
 fn ack_still<D: Digester, F>(machine: &Machine<D, F>, hart: HartNo) -> bool
     requires lengths { HasLengths machine.now.0 }
     requires hart { hart.0 < machine.now.0.setup.harts }
@@ -94,7 +94,7 @@ fn ack_still<D: Digester, F>(machine: &Machine<D, F>, hart: HartNo) -> bool
     machine.owed(hart).is_none()
 }
 
-/// Whether the attacker has no event.
+// Whether the attacker has no event.
 fn attacker_still<D: Digester, F>(machine: &Machine<D, F>) -> bool
     requires { HasLengths machine.now.0 }
     ensures { result ≡ attacker_still D.digest_of machine.now.0 }
@@ -103,7 +103,7 @@ fn attacker_still<D: Digester, F>(machine: &Machine<D, F>) -> bool
     attack_still(machine, line)
 }
 
-/// Whether no hart has an event.
+// Whether no hart has an event.
 fn harts_still<D: Digester, F>(machine: &Machine<D, F>) -> bool
     requires { HasLengths machine.now.0 }
     ensures { result ≡ list_all (hart_still D.digest_of machine.now.0) (range_with_len 0 machine.now.0.setup.harts) }
@@ -117,7 +117,7 @@ fn harts_still<D: Digester, F>(machine: &Machine<D, F>) -> bool
     true
 }
 
-/// Whether no fence needs an acknowledgement.
+// Whether no fence needs an acknowledgement.
 fn acks_still<D: Digester, F>(machine: &Machine<D, F>) -> bool
     requires { HasLengths machine.now.0 }
     ensures { result ≡ list_all (ack_still D.digest_of machine.now.0) (range_with_len 0 machine.now.0.setup.harts) }
@@ -131,7 +131,7 @@ fn acks_still<D: Digester, F>(machine: &Machine<D, F>) -> bool
     true
 }
 
-/// Whether all lines of an actor are answered.
+// Whether all lines of an actor are answered.
 fn is_done<D: Digester, F>(machine: &Machine<D, F>, actor: u8) -> bool
     requires lengths { HasLengths machine.now.0 }
     requires actor { actor ≤ machine.now.0.setup.harts }
@@ -140,7 +140,7 @@ fn is_done<D: Digester, F>(machine: &Machine<D, F>, actor: u8) -> bool
     machine.answered_of(actor) as usize == line_count(machine.setup().parts(), actor)
 }
 
-/// Whether the lines of every actor are answered.
+// Whether the lines of every actor are answered.
 fn all_answered<D: Digester, F>(machine: &Machine<D, F>) -> bool
     requires lengths { HasLengths machine.now.0 }
     requires few { machine.now.0.setup.harts ≤ 8 }
@@ -155,7 +155,7 @@ fn all_answered<D: Digester, F>(machine: &Machine<D, F>) -> bool
     true
 }
 
-/// Whether no actor has an event.
+// Whether no actor has an event.
 fn nobody_moves<D: Digester, F>(machine: &Machine<D, F>) -> bool
     requires { HasLengths machine.now.0 }
     ensures { result ≡ nobody_moves D.digest_of machine.now.0 }

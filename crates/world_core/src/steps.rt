@@ -15,9 +15,9 @@ use pl_digest::Digester;
 use pl_history::Answer;
 use world_events::{Due, Machine, Run, WordAccess};
 use world_machine::{Turned, Under, Wait};
-use world_runs::go;
+use world_runs::advance_run;
 
-/// `load` and `store`, so far.
+// `load` and `store`, so far.
 fn access<D: Digester, F: Fn(&[SlotUse]) -> usize>(
     machine: &mut Machine<D, F>,
     hart: HartNo,
@@ -42,7 +42,7 @@ fn access<D: Digester, F: Fn(&[SlotUse]) -> usize>(
     Turned::Moved
 }
 
-/// `map`, which is one event.
+// `map`, which is one event.
 fn map_line<D: Digester, F: Fn(&[SlotUse]) -> usize>(
     machine: &mut Machine<D, F>,
     hart: HartNo,
@@ -68,7 +68,7 @@ fn map_line<D: Digester, F: Fn(&[SlotUse]) -> usize>(
     Turned::Moved
 }
 
-/// `unmap`, so far.
+// `unmap`, so far.
 fn unmap_line<D: Digester, F: Fn(&[SlotUse]) -> usize>(
     machine: &mut Machine<D, F>,
     hart: HartNo,
@@ -94,7 +94,7 @@ fn unmap_line<D: Digester, F: Fn(&[SlotUse]) -> usize>(
     }
 }
 
-/// `create` and `shadow`, so far.
+// `create` and `shadow`, so far.
 fn create<D: Digester, F: Fn(&[SlotUse]) -> usize>(
     machine: &mut Machine<D, F>,
     hart: HartNo,
@@ -120,7 +120,7 @@ fn create<D: Digester, F: Fn(&[SlotUse]) -> usize>(
     Turned::Moved
 }
 
-/// `fork`, so far.
+// `fork`, so far.
 fn fork<D: Digester, F: Fn(&[SlotUse]) -> usize>(
     machine: &mut Machine<D, F>,
     hart: HartNo,
@@ -145,7 +145,7 @@ fn fork<D: Digester, F: Fn(&[SlotUse]) -> usize>(
     Turned::Moved
 }
 
-/// `run` and `resume`, so far.
+// `run` and `resume`, so far.
 fn run<D: Digester, F: Fn(&[SlotUse]) -> usize>(
     machine: &mut Machine<D, F>,
     hart: HartNo,
@@ -168,7 +168,7 @@ fn run<D: Digester, F: Fn(&[SlotUse]) -> usize>(
                 budget,
                 count,
             };
-            go(machine, run, micro);
+            advance_run(machine, run, micro);
         }
         Under::Breaking { count, .. } => return machine.breaking_turn(hart, count),
         Under::Seeking { .. } => return Turned::Done,
@@ -179,7 +179,7 @@ fn run<D: Digester, F: Fn(&[SlotUse]) -> usize>(
     Turned::Moved
 }
 
-/// `destroy`, so far.
+// `destroy`, so far.
 fn destroy<D: Digester, F: Fn(&[SlotUse]) -> usize>(
     machine: &mut Machine<D, F>,
     hart: HartNo,
@@ -204,7 +204,7 @@ fn destroy<D: Digester, F: Fn(&[SlotUse]) -> usize>(
     }
 }
 
-/// `after`: it waits until that actor has answered so many lines.
+// `after`: it waits until that actor has answered so many lines.
 fn wait<D: Digester, F: Fn(&[SlotUse]) -> usize>(
     machine: &mut Machine<D, F>,
     hart: HartNo,
@@ -223,7 +223,7 @@ fn wait<D: Digester, F: Fn(&[SlotUse]) -> usize>(
     Turned::Moved
 }
 
-/// A line that is answered at once.
+// A line that is answered at once.
 fn say<D: Digester, F: Fn(&[SlotUse]) -> usize>(
     machine: &mut Machine<D, F>,
     hart: HartNo,
@@ -252,7 +252,7 @@ fn say<D: Digester, F: Fn(&[SlotUse]) -> usize>(
     Turned::Moved
 }
 
-/// A line that is answered at once, where it hasn't begun.
+// A line that is answered at once, where it hasn't begun.
 fn say_idle<D: Digester, F: Fn(&[SlotUse]) -> usize>(
     machine: &mut Machine<D, F>,
     hart: HartNo,

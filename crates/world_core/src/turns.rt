@@ -17,7 +17,7 @@ use pl_digest::Digester;
 use world_events::{Attack, Machine};
 use world_machine::{Turned, Wait};
 
-/// A hart's turn, where no collision is kept.
+// A hart's turn, where no collision is kept.
 fn hart_turn<D: Digester, F: Fn(&[SlotUse]) -> usize>(
     machine: &mut Machine<D, F>,
     hart: HartNo,
@@ -32,7 +32,7 @@ fn hart_turn<D: Digester, F: Fn(&[SlotUse]) -> usize>(
     make(machine, hart, due, under)
 }
 
-/// The attacker's `after`.
+// The attacker's `after`.
 fn attacker_wait<D: Digester, F: Fn(&[SlotUse]) -> usize>(
     machine: &mut Machine<D, F>,
     actor: u8,
@@ -50,7 +50,7 @@ fn attacker_wait<D: Digester, F: Fn(&[SlotUse]) -> usize>(
     Turned::Moved
 }
 
-/// A line of the attacker.
+// A line of the attacker.
 fn attack_by<D: Digester, F: Fn(&[SlotUse]) -> usize>(
     machine: &mut Machine<D, F>,
     line: Attack,
@@ -69,7 +69,7 @@ fn attack_by<D: Digester, F: Fn(&[SlotUse]) -> usize>(
     }
 }
 
-/// The attacker's turn, where no collision is kept.
+// The attacker's turn, where no collision is kept.
 fn attacker_turn<D: Digester, F: Fn(&[SlotUse]) -> usize>(machine: &mut Machine<D, F>) -> Turned
     requires can { CanAttackTurn machine.old.0 }
     ensures turn { IsTurn (FnReturnsAt F.Fn machine.old.1) (λ positions. attacker_turn D.digest_of machine.old.0 (attacker_line machine.old.0)) result machine.old.0 machine.new.0 }
@@ -79,7 +79,7 @@ fn attacker_turn<D: Digester, F: Fn(&[SlotUse]) -> usize>(machine: &mut Machine<
     attack_by(machine, line)
 }
 
-/// An actor's turn, where no collision is kept.
+// An actor's turn, where no collision is kept.
 fn actor_turn<D: Digester, F: Fn(&[SlotUse]) -> usize>(
     machine: &mut Machine<D, F>,
     actor: Actor,
@@ -96,7 +96,7 @@ fn actor_turn<D: Digester, F: Fn(&[SlotUse]) -> usize>(
     }
 }
 
-/// An actor's turn. Once a collision is kept, nobody moves.
+// An actor's turn. Once a collision is kept, nobody moves.
 #[tactic(auto, unfolding(world_machine::specs::Steps::turn_of))]
 fn uncounted<D: Digester, F: Fn(&[SlotUse]) -> usize>(
     machine: &mut Machine<D, F>,

@@ -3,7 +3,6 @@ pub mod Conditions
 pub mod Dues
 pub mod Events
 pub mod HostAccessing
-pub mod Opening
 pub mod Parts
 pub mod Running
 pub mod Translating

@@ -17,7 +17,7 @@ use pl_digest::Digester;
 use rv_hart::{Micro, Walk};
 use world_machine::{Turned, Under};
 
-/// Where an instruction is after a fence of a space was acknowledged: that of an enclave in this space starts anew.
+// Where an instruction is after a fence of a space was acknowledged: that of an enclave in this space starts anew.
 fn restarted_micro(space: Space, due: Due, micro: Micro) -> Micro
     ensures { result ≡ micro_restarted space due micro }
 {
@@ -27,7 +27,7 @@ fn restarted_micro(space: Space, due: Due, micro: Micro) -> Micro
     }
 }
 
-/// How far a line is after a fence of a space was acknowledged.
+// How far a line is after a fence of a space was acknowledged.
 fn restarted(space: Space, due: Due, under: Under) -> Under
     ensures { result ≡ restarted_due space due under }
 {
@@ -51,7 +51,7 @@ impl<D: Digester, F> Machine<D, F> {
         self.fences.owed(hart)
     }
 
-    /// The fence of another hart needs this one no more. The answer is the fence as it was.
+    // The fence of another hart needs this one no more. The answer is the fence as it was.
     fn ack(&mut self, hart: HartNo, requester: HartNo) -> Fence
         requires hart { hart.0 < length self.old.0.fences }
         requires needed { IsTrue (needs (fence_of self.old.0.fences requester.0) hart.0) }
@@ -61,7 +61,7 @@ impl<D: Digester, F> Machine<D, F> {
         self.fences.ack(hart, requester)
     }
 
-    /// A hart acknowledges the fence of another one, which needs it.
+    // A hart acknowledges the fence of another one, which needs it.
     fn acknowledge(&mut self, hart: HartNo, requester: HartNo)
         requires can { CanAcknowledge self.old.0 hart.0 }
         requires needed { IsTrue (needs (fence_of self.old.0.fences requester.0) hart.0) }

@@ -30,7 +30,7 @@ use pl_digest::Digester;
 use rv_hart::{Micro, Walk};
 use world_machine::{Turned, Under, Wait};
 
-/// The place in the image of a page that an access would store to but for its being shared.
+// The place in the image of a page that an access would store to but for its being shared.
 fn shared_place(kind: Kind, page: PageKind, place: u32) -> Option<u32>
     ensures { result ≡ shared_place kind page place }
 {
@@ -40,7 +40,7 @@ fn shared_place(kind: Kind, page: PageKind, place: u32) -> Option<u32>
     }
 }
 
-/// That of the page at a place.
+// That of the page at a place.
 fn shared_at(kind: Kind, pages: &[PageKind], place: usize) -> Option<u32>
     requires { length pages.now ≤ 256 }
     ensures { result ≡ option_and_then (λ page. shared_place kind page place) (slice_get pages.now place) }
@@ -51,7 +51,7 @@ fn shared_at(kind: Kind, pages: &[PageKind], place: usize) -> Option<u32>
     }
 }
 
-/// This number, where a page of the image lets an access of a kind through.
+// This number, where a page of the image lets an access of a kind through.
 fn page_for(kind: Kind, page: Option<&ImagePage>, number: Option<u32>) -> Option<u32>
     ensures { result ≡ page_for kind (option_copied page.entry) number }
 {
@@ -65,7 +65,7 @@ fn page_for(kind: Kind, page: Option<&ImagePage>, number: Option<u32>) -> Option
     }
 }
 
-/// The place in the image of the page that an access is to break: one that it would store to but for its being shared.
+// The place in the image of the page that an access is to break: one that it would store to but for its being shared.
 fn to_break(kind: Kind, image: &[ImagePage], pages: &[PageKind], address: u64) -> Option<u32>
     requires { length pages.now ≤ 256 }
     ensures { result ≡ to_break kind image.now pages.now address }
@@ -77,7 +77,7 @@ fn to_break(kind: Kind, image: &[ImagePage], pages: &[PageKind], address: u64) -
     page_for(kind, image.get(place), shared_at(kind, pages, place))
 }
 
-/// What may be done with a page of an image.
+// What may be done with a page of an image.
 fn perms_in(image: &[ImagePage], index: u32) -> Perms
     ensures { result ≡ option_map_or (λ page. page.perms) (slice_get image.now index) (record { 0 = 0 }) }
 {
@@ -104,7 +104,7 @@ impl<D: Digester, F> Machine<D, F> {
         )
     }
 
-    /// What may be done with a page of a number's image.
+    // What may be done with a page of a number's image.
     fn perms_at(&self, e: EncNo, index: u32) -> Perms
         requires number { e.0 < length self.now.0.enclaves }
         requires image { (enclave_at self.now.0.enclaves e.0).image < length self.now.0.setup.images }
@@ -123,7 +123,7 @@ impl<D: Digester, F> Machine<D, F> {
         !self.enclaves.get(e).spares.as_slice().is_empty()
     }
 
-    /// The instruction starts anew, since nobody is lacking for the hart's fence, which it leaves.
+    // The instruction starts anew, since nobody is lacking for the hart's fence, which it leaves.
     fn restart(&mut self, hart: HartNo, count: u32)
         requires hart { hart.0 < length self.old.0.under }
         requires nobody { IsSomeAnd (fence_of self.old.0.fences hart.0) (λ fence. fence.need.0 ≡ 0) }

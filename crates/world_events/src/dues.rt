@@ -43,7 +43,7 @@ pub enum Due {
     After { actor: u8, count: u32 },
 }
 
-/// A line without the pages that it names.
+// A line without the pages that it names.
 fn due_of(line: Option<&Line>) -> Due
     ensures { result ≡ due_of (option_copied line.entry) }
 {
@@ -93,7 +93,7 @@ fn due_of(line: Option<&Line>) -> Due
     }
 }
 
-/// A hart's line at a position, without the pages that it names.
+// A hart's line at a position, without the pages that it names.
 fn line_due(setup: &SetupParts, hart: HartNo, at: u32) -> Due
     requires { hart.0 < length setup.now.lines }
     ensures { result ≡ due_of (slice_get (script_of setup.now hart.0) at) }
@@ -123,7 +123,7 @@ pub enum Attack {
     After { actor: u8, count: u32 },
 }
 
-/// A line of the attacker, without its bytes.
+// A line of the attacker, without its bytes.
 fn attack_of(line: Option<&AttackLine>) -> Attack
     ensures { result ≡ attack_of (option_copied line.entry) }
 {
@@ -137,7 +137,7 @@ fn attack_of(line: Option<&AttackLine>) -> Attack
     }
 }
 
-/// The attacker's line at a position, without its bytes.
+// The attacker's line at a position, without its bytes.
 fn attack_at(setup: &SetupParts, at: u32) -> Attack
     ensures { result ≡ attack_of (slice_get setup.now.attacker at) }
 {

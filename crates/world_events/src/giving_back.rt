@@ -22,7 +22,7 @@ use pl_history::Answer;
 use world_machine::{Turned, Under, Wait};
 
 impl<D: Digester, F> Machine<D, F> {
-    /// The number is dying, and the hart posts its fence of all of the number's space.
+    // The number is dying, and the hart posts its fence of all of the number's space.
     fn post_destroy(&mut self, hart: HartNo, e: EncNo) -> Result<(), No>
         requires can { CanDestroy self.old.0 hart.0 e.0 }
         ensures refusal { result_err result ≡ (destroy_begun self.old.0.enclaves self.old.0.fences hart.0 e).refusal }
@@ -31,7 +31,7 @@ impl<D: Digester, F> Machine<D, F> {
         destroy_begin(&mut self.enclaves, &mut self.fences, hart, e)
     }
 
-    /// The line begins where it isn't refused, and the hart then drops its own translations of the number's space at once.
+    // The line begins where it isn't refused, and the hart then drops its own translations of the number's space at once.
     fn begin_destroying(&mut self, hart: HartNo, e: EncNo, begun: Result<(), No>)
         requires can { CanGo self.old.0 hart.0 }
         requires tlbs { hart.0 < length self.old.0.tlbs }
@@ -55,7 +55,7 @@ impl<D: Digester, F> Machine<D, F> {
         self.begin_destroying(hart, e, begun);
     }
 
-    /// The last event of `destroy`: nobody is lacking, all pages of the number are zeroed and the host's, and the number is free.
+    // The last event of `destroy`: nobody is lacking, all pages of the number are zeroed and the host's, and the number is free.
     fn end_destroy(&mut self, hart: HartNo, e: EncNo)
         requires can { CanEndDestroy self.old.0 hart.0 e.0 }
         requires nobody { IsSomeAnd (fence_of self.old.0.fences hart.0) (λ fence. fence.need.0 ≡ 0) }
@@ -72,7 +72,7 @@ impl<D: Digester, F> Machine<D, F> {
         self.answer(hart, Answer::Ok);
     }
 
-    /// Zeroes the pages of a shadow and gives them back, and frees its number.
+    // Zeroes the pages of a shadow and gives them back, and frees its number.
     fn give_shadow_back(&mut self, hart: HartNo, s: EncNo) -> Result<(), No>
         requires can { CanDrop self.old.0 hart.0 s.0 }
         ensures refusal { result_err result ≡ (shadow_dropped self.old.0.ctl self.old.0.owners self.old.0.enclaves s.0).refusal }

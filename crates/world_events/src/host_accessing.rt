@@ -23,7 +23,7 @@ use pl_history::Answer;
 use rv_hart::{PageFault, Sought, Walk};
 use world_machine::Under;
 
-/// The bytes of an access.
+// The bytes of an access.
 const WORD_BYTES: u8 = 8;
 
 /// A load, or a store of a word.
@@ -35,7 +35,7 @@ pub enum WordAccess {
     Store { word: u64 },
 }
 
-/// The kind of an access.
+// The kind of an access.
 fn kind_of(access: WordAccess) -> Kind
     ensures { result ≡ kind_of (access_now access) }
 {
@@ -46,7 +46,7 @@ fn kind_of(access: WordAccess) -> Kind
 }
 
 impl<D: Digester, F> Machine<D, F> {
-    /// An access of the host as its hart translates it.
+    // An access of the host as its hart translates it.
     fn host_request(&self, hart: HartNo, va: Va, access: WordAccess) -> Request
         ensures { request_now result ≡ host_request self.now.0 hart.0 va (access_now access) }
     {
@@ -58,14 +58,14 @@ impl<D: Digester, F> Machine<D, F> {
         }
     }
 
-    /// Whether the protection entries let an access through.
+    // Whether the protection entries let an access through.
     fn is_allowed(&self, pa: Pa, kind: Kind) -> bool
         ensures { result ≡ permits (pmp_of self.now.0.setup) pa.0 8 kind }
     {
         self.pmp.allows(pa, WORD_BYTES, kind)
     }
 
-    /// The eight bytes are read as they stand off chip, or written there.
+    // The eight bytes are read as they stand off chip, or written there.
     fn make_access(&mut self, hart: HartNo, pa: Pa, access: WordAccess)
         requires can { CanGo self.old.0 hart.0 }
         requires inside { IsInside self.old.0.ctl.zones pa }
@@ -86,7 +86,7 @@ impl<D: Digester, F> Machine<D, F> {
         }
     }
 
-    /// An access at its address, which is made where the protection entries let it through.
+    // An access at its address, which is made where the protection entries let it through.
     fn reach_host(&mut self, hart: HartNo, pa: Pa, access: WordAccess)
         requires can { CanGo self.old.0 hart.0 }
         requires inside { IsInside self.old.0.ctl.zones pa }
@@ -100,7 +100,7 @@ impl<D: Digester, F> Machine<D, F> {
         }
     }
 
-    /// A walk that has learned goes on, or the line is answered that there is no page.
+    // A walk that has learned goes on, or the line is answered that there is no page.
     fn host_learned(&mut self, hart: HartNo, learned: Result<Walk, PageFault>)
         requires { CanGo self.old.0 hart.0 }
         ensures { self.new ≡ (host_learns hart.0 self.old.0 learned, self.old.1) }
@@ -111,7 +111,7 @@ impl<D: Digester, F> Machine<D, F> {
         }
     }
 
-    /// What the read of a table's word comes to.
+    // What the read of a table's word comes to.
     fn host_word(&mut self, request: Request, walk: Walk, word: Result<u64, Broken>)
         requires can { CanGo self.old.0 request.hart.0 }
         requires learns { CanLearn self.old.0 (request_now request) walk }
@@ -129,7 +129,7 @@ impl<D: Digester, F> Machine<D, F> {
 }
 
 impl<D: Digester, F: Fn(&[SlotUse]) -> usize> Machine<D, F> {
-    /// The word of a table is read through the trees, and the walk learns from it.
+    // The word of a table is read through the trees, and the walk learns from it.
     fn read_host_table(&mut self, request: Request, walk: Walk, pa: Pa)
         requires can { CanGo self.old.0 request.hart.0 }
         requires learns { CanLearn self.old.0 (request_now request) walk }

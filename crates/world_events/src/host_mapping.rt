@@ -25,7 +25,7 @@ use pl_history::Answer;
 use world_machine::{Turned, Under, Wait};
 
 impl<D: Digester, F> Machine<D, F> {
-    /// What the event of `map` answered.
+    // What the event of `map` answered.
     fn mapped(&mut self, hart: HartNo, done: Result<(), Stop>)
         requires { CanGo self.old.0 hart.0 }
         ensures { self.new ≡ (mapped_by self.old.0 hart.0 (step_answer done), self.old.1) }
@@ -37,7 +37,7 @@ impl<D: Digester, F> Machine<D, F> {
         }
     }
 
-    /// What the first event of `unmap` answered. The hart drops its own translation at once.
+    // What the first event of `unmap` answered. The hart drops its own translation at once.
     fn unmapped(&mut self, hart: HartNo, va: Va, begun: Result<u32, Stop>)
         requires can { CanGo self.old.0 hart.0 }
         requires tlbs { hart.0 < length self.old.0.tlbs }
@@ -53,7 +53,7 @@ impl<D: Digester, F> Machine<D, F> {
         }
     }
 
-    /// The last event of `unmap`: the fence, for which nobody is lacking, is left, and the page has one mapping less.
+    // The last event of `unmap`: the fence, for which nobody is lacking, is left, and the page has one mapping less.
     fn end_unmap(&mut self, hart: HartNo, page: u32)
         requires can { CanGo self.old.0 hart.0 }
         requires nobody { IsSomeAnd (fence_of self.old.0.fences hart.0) (λ fence. fence.need.0 ≡ 0) }
@@ -66,7 +66,7 @@ impl<D: Digester, F> Machine<D, F> {
 }
 
 impl<D: Digester, F: Fn(&[SlotUse]) -> usize> Machine<D, F> {
-    /// Sets the leaf of an address, and counts the mapping.
+    // Sets the leaf of an address, and counts the mapping.
     fn set_leaf(&mut self, hart: HartNo, va: Va, page: u32, perms: Perms) -> Result<(), Stop>
         requires can { CanMap self.old.0 hart.0 page perms }
         requires choice { NamesPosition F.Fn self.old.1 }
@@ -98,7 +98,7 @@ impl<D: Digester, F: Fn(&[SlotUse]) -> usize> Machine<D, F> {
         self.mapped(hart, done);
     }
 
-    /// Clears the leaf of an address, and posts the hart's fence.
+    // Clears the leaf of an address, and posts the hart's fence.
     fn clear_leaf(&mut self, hart: HartNo, va: Va) -> Result<u32, Stop>
         requires can { CanUnmap self.old.0 hart.0 }
         requires choice { NamesPosition F.Fn self.old.1 }

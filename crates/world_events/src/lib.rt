@@ -1,4 +1,4 @@
-//! The machine's parts, and each event of an actor but those of a run as a call that moves them, as plain data moves.
+//! The machine's parts, and each event of an actor but the accesses of a run as a call that moves them, as plain data moves.
 #![tactic(auto)]
 
 mod acknowledging;

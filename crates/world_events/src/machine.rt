@@ -59,7 +59,7 @@ impl<D: Digester, F> Model for Machine<D, F> {
     ghost invariant = { λ m. m.pmp ≡ pmp_of m.setup };
 }
 
-/// Adds an entry that names no bytes.
+// Adds an entry that names no bytes.
 fn add_entry(history: &mut History, entry: Entry)
     requires room { 0 < history.old.entry_room }
     requires part { part_end entry.answer ≡ 0 }

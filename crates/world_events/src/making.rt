@@ -23,7 +23,7 @@ use pl_digest::Digester;
 use pl_history::{Answer, Line, SetupParts};
 use world_machine::Under;
 
-/// The pages that a line of a hart names, which makes a number.
+// The pages that a line of a hart names, which makes a number.
 fn pages_named(setup: &SetupParts, hart: HartNo, at: u32) -> &[u32]
     requires { hart.0 < length setup.now.lines }
     ensures { result.now ≡ pages_named (slice_get (script_of setup.now hart.0) at) }
@@ -31,7 +31,7 @@ fn pages_named(setup: &SetupParts, hart: HartNo, at: u32) -> &[u32]
     pages_in(setup.lines.as_slice()[usize::from(hart.0)].get(at as usize))
 }
 
-/// The pages of a line that makes a number.
+// The pages of a line that makes a number.
 fn pages_in(line: Option<&Line>) -> &[u32]
     ensures { result.now ≡ pages_named (option_copied line.entry) }
 {
@@ -51,7 +51,7 @@ pub(crate) fn image_at(setup: &SetupParts, number: u8) -> &Image
     &setup.images.as_slice()[usize::from(number)]
 }
 
-/// How many pages an image of the setup has; none where it isn't there.
+// How many pages an image of the setup has; none where it isn't there.
 fn image_pages(setup: &SetupParts, number: u8) -> u32
     ensures { result ≡ length (image_of setup.now number).pages }
 {
@@ -62,7 +62,7 @@ fn image_pages(setup: &SetupParts, number: u8) -> u32
 }
 
 impl<D: Digester, F> Machine<D, F> {
-    /// The number of a record's image.
+    // The number of a record's image.
     fn image_number(&self, e: EncNo) -> u8
         requires { e.0 < length self.now.0.enclaves }
         ensures { result ≡ (enclave_at self.now.0.enclaves e.0).image }
@@ -70,7 +70,7 @@ impl<D: Digester, F> Machine<D, F> {
         self.enclaves.get(e).image
     }
 
-    /// Takes the pages of the hart's line, and begins to make its number.
+    // Takes the pages of the hart's line, and begins to make its number.
     fn take_pages(&mut self, hart: HartNo, e: EncNo, image: u8, shadow: bool) -> Result<(), No>
         requires can { CanMake self.old.0 hart.0 e.0 image }
         ensures refusal { result_err result ≡ (create_due self.old.0 hart.0 e.0 image shadow).refusal }
@@ -100,7 +100,7 @@ impl<D: Digester, F> Machine<D, F> {
         self.begin_unless(hart, Under::Putting { done: 0 }, begun);
     }
 
-    /// Takes the pages of the hart's line as spares, and begins to make its number, which shares the shadow's pages.
+    // Takes the pages of the hart's line as spares, and begins to make its number, which shares the shadow's pages.
     fn take_spares(&mut self, hart: HartNo, s: EncNo, e: EncNo) -> Result<(), No>
         requires can { CanFork self.old.0 hart.0 s.0 e.0 }
         ensures refusal { result_err result ≡ (fork_due self.old.0 hart.0 s e.0).refusal }
@@ -129,7 +129,7 @@ impl<D: Digester, F> Machine<D, F> {
         self.begin_unless(hart, Under::Putting { done }, begun);
     }
 
-    /// What a step that put a page answered.
+    // What a step that put a page answered.
     fn put(&mut self, hart: HartNo, done: u32, last: Result<bool, Stop>)
         requires can { CanGo self.old.0 hart.0 }
         requires few { done < 65536 }
@@ -143,7 +143,7 @@ impl<D: Digester, F> Machine<D, F> {
         }
     }
 
-    /// Gives a number a page as its last spare.
+    // Gives a number a page as its last spare.
     fn give_spare(&mut self, e: EncNo, page: u32) -> Result<(), No>
         requires number { e.0 < length self.old.0.enclaves }
         ensures refusal { result_err result ≡ (grant_due self.old.0 e.0 page).refusal }
@@ -164,7 +164,7 @@ impl<D: Digester, F> Machine<D, F> {
 }
 
 impl<D: Digester, F: Fn(&[SlotUse]) -> usize> Machine<D, F> {
-    /// Puts the page of a step.
+    // Puts the page of a step.
     fn put_page(
         &mut self,
         hart: HartNo,

@@ -3,8 +3,7 @@ ghost use Rattle.std.specs.Prelude.{◌≡◌, ◌≤◌, ◌+◌, [], IfOk, rep
 ghost use Rattle.mon_enclave.specs.Records.{free_enclave};
 ghost use Rattle.mon_owner.specs.Owners.{first_owners};
 ghost use Rattle.pl_history.specs.Rules.{guarded_of, pages_of};
-ghost use Rattle.world_machine.specs.Reached.{opening_world};
-ghost use Rattle.world_events.specs.Opening.{empty_history};
+ghost use Rattle.world_machine.specs.Reached.{empty_history, opening_world};
 
 use crate::machine::Machine;
 use crate::tlbs::Tlbs;
@@ -21,7 +20,7 @@ use std::alloc::{AllocError, Global};
 use world_attack::room_for;
 use world_machine::Under;
 
-/// So many lines that haven't begun.
+// So many lines that haven't begun.
 fn idle_lines(alloc: Global, harts: u8) -> Result<Listed<Under>, AllocError>
     ensures { IfOk result (λ lines. lines ≡ replicate harts Under.Idle) }
 {
@@ -30,7 +29,7 @@ fn idle_lines(alloc: Global, harts: u8) -> Result<Listed<Under>, AllocError>
     Ok(Listed::from_vec(lines))
 }
 
-/// So many counts of 0.
+// So many counts of 0.
 fn zero_counts(alloc: Global, actors: usize) -> Result<Listed<u32>, AllocError>
     ensures { IfOk result (λ counts. counts ≡ replicate actors 0) }
 {
@@ -39,7 +38,7 @@ fn zero_counts(alloc: Global, actors: usize) -> Result<Listed<u32>, AllocError>
     Ok(Listed::from_vec(counts))
 }
 
-/// The owners of all pages, and the records of all numbers, of which each is free.
+// The owners of all pages, and the records of all numbers, of which each is free.
 fn free_records(
     alloc: Global,
     zones: u8,
@@ -57,8 +56,8 @@ fn free_records(
     Ok((owners, enclaves))
 }
 
-/// Of so many harts the translations, which are none, and how far each one's line is; and the counts of answered lines, the
-/// attacker's last.
+// Of so many harts the translations, which are none, and how far each one's line is; and the counts of answered lines, the
+// attacker's last.
 fn idle_harts(alloc: Global, harts: u8) -> Result<(Tlbs, Listed<Under>, Listed<u32>), AllocError>
     ensures { IfOk result (λ idle. idle ≡ (replicate harts [], replicate harts Under.Idle, replicate (harts + 1) 0)) }
 {
@@ -68,7 +67,7 @@ fn idle_harts(alloc: Global, harts: u8) -> Result<(Tlbs, Listed<Under>, Listed<u
     Ok((tlbs, under, answered))
 }
 
-/// The history that a run of a setup begins with: empty, with room for all that the run adds.
+// The history that a run of a setup begins with: empty, with room for all that the run adds.
 fn history_of(alloc: Global, setup: &Setup) -> Result<History, Memory>
     ensures { IfOk result (λ history. history ≡ empty_history setup.now) }
 {
@@ -76,7 +75,7 @@ fn history_of(alloc: Global, setup: &Setup) -> Result<History, Memory>
     Ok(History::new(alloc, entries, bytes)?)
 }
 
-/// All parts that a machine begins with but its controller.
+// All parts that a machine begins with but its controller.
 fn all_but_controller(
     alloc: Global,
     setup: &Setup,

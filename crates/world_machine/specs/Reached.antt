@@ -5,6 +5,7 @@ use Rattle.mon_enclave.specs.Records.{free_enclave}
 use Rattle.mon_owner.specs.Owners.{first_owners}
 use Rattle.mon_tables.specs.Tables.{start_words}
 use Rattle.pl_history.specs.declared.setup.SetupParts.{SetupParts}
+use Rattle.pl_history.specs.History.{HistoryData}
 use Rattle.pl_history.specs.Rules.{IsSetup, guarded_of, pages_of}
 use Rattle.world_machine.specs.declared.under.Under.TheVariants.{Idle}
 use Rattle.world_machine.specs.ByteBounds.{AreImageBytes}
@@ -18,10 +19,19 @@ pub record CanRun (setup : SetupParts) : Type 0 where
   pub bytes : AreImageBytes setup.images
   pub lines_fit : ScriptsFit setup.lines
 
+-- The history that a run of a setup begins with: no entries, and room for two of each line and for all bytes that the attacker's lines
+-- may add.
+abbrev pub empty_history : SetupParts → HistoryData
+empty_history setup = record {
+  entries = [];
+  bytes = [];
+  entry_room = 2 * (sum_by length setup.lines + length setup.attacker);
+  byte_room = min (4096 * length setup.attacker) 4194304;
+}
+
 module _ (digest_of : List ℕ → List ℕ) where
   -- The world that a run of a setup begins with: the start words of the host's tables in the guarded pages, nothing mounted; guarded pages
-  -- and those of the host; free numbers; no translations and no fences; no line begun or answered; an empty history, with room for two
-  -- entries for each line and for all bytes that the attacker's lines may add.
+  -- and those of the host; free numbers; no translations and no fences; no line begun or answered; an empty history.
   unfoldable pub opening_world : SetupParts → WorldData
   opening_world setup = record {
     setup = setup;
@@ -32,12 +42,7 @@ module _ (digest_of : List ℕ → List ℕ) where
     fences = replicate setup.harts None;
     under = replicate setup.harts Idle;
     answered = replicate (setup.harts + 1) 0;
-    history = record {
-      entries = [];
-      bytes = [];
-      entry_room = 2 * (sum_by length setup.lines + length setup.attacker);
-      byte_room = min (4096 * length setup.attacker) 4194304;
-    };
+    history = empty_history setup;
     collision = None;
     moves = 0;
   }

@@ -17,7 +17,7 @@ use world_machine::Under;
 // The register that RECV puts its word into, `a0`.
 const A0: u8 = 10;
 
-/// EXIT retires, and leaves `pc`.
+// EXIT retires, and leaves `pc`.
 fn exit<D: Digester, F>(machine: &mut Machine<D, F>, run: Run, code: u64)
     requires { CanRun machine.old.0 (run_now run) }
     ensures { machine.new ≡ (exits machine.old.0 (run_now run) (enclave_at machine.old.0.enclaves run.e.0) code, machine.old.1) }
@@ -27,7 +27,7 @@ fn exit<D: Digester, F>(machine: &mut Machine<D, F>, run: Run, code: u64)
     machine.leave(run, run.count + 1, Why::Ended(code));
 }
 
-/// RECV puts the next word into `a0`, where there is one.
+// RECV puts the next word into `a0`, where there is one.
 fn receive<D: Digester, F>(machine: &mut Machine<D, F>, run: Run)
     requires { CanRun machine.old.0 (run_now run) }
     ensures { machine.new ≡ (receives machine.old.0 (run_now run) (enclave_at machine.old.0.enclaves run.e.0) (received_word (enclave_at machine.old.0.enclaves run.e.0)), machine.old.1) }
@@ -39,7 +39,7 @@ fn receive<D: Digester, F>(machine: &mut Machine<D, F>, run: Run)
     }
 }
 
-/// SEND sends a word out, where there is room for it.
+// SEND sends a word out, where there is room for it.
 fn send_out<D: Digester, F>(machine: &mut Machine<D, F>, run: Run, word: u64)
     requires { CanRun machine.old.0 (run_now run) }
     ensures { machine.new ≡ (sends machine.old.0 (run_now run) (enclave_at machine.old.0.enclaves run.e.0) word, machine.old.1) }
@@ -52,7 +52,7 @@ fn send_out<D: Digester, F>(machine: &mut Machine<D, F>, run: Run, word: u64)
     }
 }
 
-/// An ECALL.
+// An ECALL.
 fn call<D: Digester, F>(machine: &mut Machine<D, F>, run: Run, number: u64, value: u64)
     requires { CanRun machine.old.0 (run_now run) }
     ensures { machine.new ≡ (calls machine.old.0 (run_now run) (enclave_at machine.old.0.enclaves run.e.0) number value, machine.old.1) }
@@ -79,7 +79,7 @@ pub(crate) fn act<D: Digester, F>(machine: &mut Machine<D, F>, run: Run, word: u
     }
 }
 
-/// The hart's next event reaches the data of this instruction.
+// The hart's next event reaches the data of this instruction.
 fn seek<D: Digester, F>(machine: &mut Machine<D, F>, run: Run, word: u32)
     requires { run.hart.0 < length machine.old.0.under }
     ensures { machine.new ≡ (goes_on machine.old.0 run.hart.0 (Under.Running (Micro.Reaching word Walk.Start) run.count), machine.old.1) }

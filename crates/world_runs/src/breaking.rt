@@ -20,7 +20,7 @@ use pl_digest::Digester;
 use world_events::{Machine, Run};
 use world_machine::Under;
 
-/// The cause of the trap where no page lets an access through.
+// The cause of the trap where no page lets an access through.
 fn fault_cause(kind: Kind) -> u8
     ensures { result ≡ fault_cause kind }
 {
@@ -31,7 +31,7 @@ fn fault_cause(kind: Kind) -> u8
     }
 }
 
-/// What the break of a page came to. The hart drops its own translation of the page at once.
+// What the break of a page came to. The hart drops its own translation of the page at once.
 fn broke<D: Digester, F>(
     machine: &mut Machine<D, F>,
     run: Run,
@@ -57,7 +57,7 @@ fn broke<D: Digester, F>(
     }
 }
 
-/// A page is broken, for which there is a spare.
+// A page is broken, for which there is a spare.
 fn break_page<D: Digester, F: Fn(&[SlotUse]) -> usize>(
     machine: &mut Machine<D, F>,
     run: Run,
@@ -73,7 +73,7 @@ fn break_page<D: Digester, F: Fn(&[SlotUse]) -> usize>(
     broke(machine, run, index, done);
 }
 
-/// A page is to be broken, which needs a spare.
+// A page is to be broken, which needs a spare.
 fn break_or_leave<D: Digester, F: Fn(&[SlotUse]) -> usize>(
     machine: &mut Machine<D, F>,
     run: Run,

@@ -1,4 +1,4 @@
-//! The events of a run: what an instruction does, and its accesses, over the calls of the machine.
+//! The accesses of a run, and what its instructions do, over the calls of the machine; how a run begins stands with the machine.
 #![tactic(auto)]
 
 mod acting;
@@ -7,4 +7,4 @@ mod reaching;
 mod running;
 mod walking;
 
-pub use walking::go;
+pub use walking::advance_run;

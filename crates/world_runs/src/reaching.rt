@@ -21,14 +21,14 @@ use pl_digest::Digester;
 use rv_alone::{loaded, next, passed};
 use world_events::{Machine, Run};
 
-/// The offset in its page of the eight bytes, at a multiple of 8, that hold a part at an address.
+// The offset in its page of the eight bytes, at a multiple of 8, that hold a part at an address.
 fn word_offset(address: u64) -> u16
     ensures { result ≡ word_offset address }
 {
     (address % 4096 / 8 * 8) as u16
 }
 
-/// A part of so many bytes at an address, of the eight bytes that hold it.
+// A part of so many bytes at an address, of the eight bytes that hold it.
 fn part_of_word(word: u64, address: u64, width: u8) -> u64
     requires { IsTrue (is_width width) }
     ensures { result ≡ part_of_word word address width }
@@ -40,7 +40,7 @@ fn part_of_word(word: u64, address: u64, width: u8) -> u64
     part % (1u64 << (8 * width))
 }
 
-/// What the fetch of an instruction comes to.
+// What the fetch of an instruction comes to.
 fn after_fetch<D: Digester, F>(machine: &mut Machine<D, F>, run: Run, eight: Result<u64, Broken>)
     requires { CanRun machine.old.0 (run_now run) }
     ensures { machine.new ≡ (decided machine.old.0 (fetch_goes (run_now run) machine.old.0) (run_faults (run_now run) machine.old.0) (outcome_of eight), machine.old.1) }
@@ -56,7 +56,7 @@ fn after_fetch<D: Digester, F>(machine: &mut Machine<D, F>, run: Run, eight: Res
     }
 }
 
-/// What a load comes to.
+// What a load comes to.
 fn after_load<D: Digester, F>(
     machine: &mut Machine<D, F>,
     run: Run,
@@ -82,7 +82,7 @@ fn after_load<D: Digester, F>(
     }
 }
 
-/// What a store comes to.
+// What a store comes to.
 fn after_store<D: Digester, F>(machine: &mut Machine<D, F>, run: Run, done: Result<(), Broken>)
     requires { CanRun machine.old.0 (run_now run) }
     ensures { machine.new ≡ (decided machine.old.0 (store_goes (run_now run) machine.old.0) (run_faults (run_now run) machine.old.0) (outcome_of done), machine.old.1) }

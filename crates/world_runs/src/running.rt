@@ -12,7 +12,7 @@ use rv_hart::{Micro, Walk};
 use world_events::{Machine, Run};
 use world_machine::Under;
 
-/// The hart's next event is about the next instruction, after so many.
+// The hart's next event is about the next instruction, after so many.
 fn fetch_next<D: Digester, F>(machine: &mut Machine<D, F>, run: Run, count: u32)
     requires { run.hart.0 < length machine.old.0.under }
     ensures { machine.new ≡ (fetches_next machine.old.0 (run_now run) count, machine.old.1) }

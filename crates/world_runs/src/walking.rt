@@ -33,7 +33,7 @@ pub(crate) enum Purpose {
     Data { word: u32 },
 }
 
-/// Where an instruction is, whose walk is so far.
+// Where an instruction is, whose walk is so far.
 fn micro_with(purpose: Purpose, walk: Walk) -> Micro
     ensures { result ≡ micro_with purpose walk }
 {
@@ -43,7 +43,7 @@ fn micro_with(purpose: Purpose, walk: Walk) -> Micro
     }
 }
 
-/// A walk that has learned goes on, or it is noted that no page serves the access.
+// A walk that has learned goes on, or it is noted that no page serves the access.
 fn run_learned<D: Digester, F>(
     machine: &mut Machine<D, F>,
     run: Run,
@@ -66,7 +66,7 @@ fn run_learned<D: Digester, F>(
     machine.go_on(run.hart, under);
 }
 
-/// What the read of a table's word comes to.
+// What the read of a table's word comes to.
 fn run_word<D: Digester, F>(
     machine: &mut Machine<D, F>,
     run: Run,
@@ -95,7 +95,7 @@ fn run_word<D: Digester, F>(
     }
 }
 
-/// What the word of the next instruction does.
+// What the word of the next instruction does.
 fn act_of<D: Digester, F>(machine: &Machine<D, F>, e: EncNo, word: u32) -> Act
     requires { e.0 < length machine.now.0.enclaves }
     ensures act { result ≡ act_of (enclave_at machine.now.0.enclaves e.0).context word }
@@ -104,7 +104,7 @@ fn act_of<D: Digester, F>(machine: &Machine<D, F>, e: EncNo, word: u32) -> Act
     next(&machine.context(e), word)
 }
 
-/// The word of a table is read through the trees, and the walk learns from it.
+// The word of a table is read through the trees, and the walk learns from it.
 fn read_run_table<D: Digester, F: Fn(&[SlotUse]) -> usize>(
     machine: &mut Machine<D, F>,
     run: Run,
@@ -127,7 +127,7 @@ fn read_run_table<D: Digester, F: Fn(&[SlotUse]) -> usize>(
     run_word(machine, run, purpose, va, kind, walk, word);
 }
 
-/// The word at `pc` is fetched, whose walk is so far.
+// The word at `pc` is fetched, whose walk is so far.
 fn fetch<D: Digester, F: Fn(&[SlotUse]) -> usize>(machine: &mut Machine<D, F>, run: Run, walk: Walk)
     requires can { CanReach machine.old.0 (run_now run) (Micro.Fetching walk) }
     requires choice { NamesPosition F.Fn machine.old.1 }
@@ -146,7 +146,7 @@ fn fetch<D: Digester, F: Fn(&[SlotUse]) -> usize>(machine: &mut Machine<D, F>, r
     }
 }
 
-/// The data of a load is reached, whose walk is so far.
+// The data of a load is reached, whose walk is so far.
 fn load<D: Digester, F: Fn(&[SlotUse]) -> usize>(
     machine: &mut Machine<D, F>,
     run: Run,
@@ -178,7 +178,7 @@ fn load<D: Digester, F: Fn(&[SlotUse]) -> usize>(
     }
 }
 
-/// The data of a store is reached, whose walk is so far.
+// The data of a store is reached, whose walk is so far.
 fn store<D: Digester, F: Fn(&[SlotUse]) -> usize>(
     machine: &mut Machine<D, F>,
     run: Run,
@@ -209,7 +209,7 @@ fn store<D: Digester, F: Fn(&[SlotUse]) -> usize>(
     }
 }
 
-/// The data of an instruction that loads or stores is reached; no other instruction seeks data.
+// The data of an instruction that loads or stores is reached; no other instruction seeks data.
 fn reach<D: Digester, F: Fn(&[SlotUse]) -> usize>(
     machine: &mut Machine<D, F>,
     run: Run,
@@ -244,7 +244,7 @@ fn reach<D: Digester, F: Fn(&[SlotUse]) -> usize>(
 }
 
 /// The next event of a run, by where its instruction is.
-pub fn go<D: Digester, F: Fn(&[SlotUse]) -> usize>(
+pub fn advance_run<D: Digester, F: Fn(&[SlotUse]) -> usize>(
     machine: &mut Machine<D, F>,
     run: Run,
     micro: Micro,
