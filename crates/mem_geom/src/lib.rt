@@ -1,7 +1,4 @@
 //! Where each place of off-chip memory stands, and the off-chip bytes themselves.
-//!
-//! Off-chip memory begins at 0x80000000 and holds, without a gap, 64 pages for each zone, then 585 nodes of 256 bytes
-//! for each zone, then the nine nodes of the root table.
 #![tactic(auto)]
 
 mod dram;

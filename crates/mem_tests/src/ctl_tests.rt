@@ -1,5 +1,4 @@
-// The controller with its trees: what is refused, where, and what stays. Addresses are worked by hand from the layout, digests are from
-// another program.
+// The controller with its trees, by addresses worked by hand from the layout, and digests from another program.
 ghost use Rattle.mem_slots.specs.Choices.{NamesPosition};
 
 use crate::bench::{Access, Bench};

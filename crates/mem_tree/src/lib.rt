@@ -1,7 +1,4 @@
 //! A path through the tree of a zone: its check, the path after a write, and the nodes over a page.
-//!
-//! Each node is eight digests of 32 bytes. A node of level 1 has the digests of eight blocks, and each node above it
-//! those of eight nodes.
 #![tactic(auto)]
 
 mod laws;

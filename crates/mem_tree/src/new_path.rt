@@ -1,3 +1,5 @@
+// What a write leaves of a path.
+
 /// A block after a write, the four nodes over it, and the root of the zone.
 #[derive(Clone, Copy, PartialEq, Eq, Debug)]
 pub struct NewPath {

@@ -1,5 +1,4 @@
--- What the events of `map` and `unmap` answer, leave and come to, over plain data, for every digest function with digests of 32 bytes and
--- any positions.
+-- What the events of `map` and `unmap` answer, leave and come to, over plain data, for every digest function and any positions.
 use Rattle.std.specs.Prelude.{ℕ, ◌≡◌, ◌↔◌, ◌+◌, ◌-◌, ◌*◌, ◌/◌, ◌%◌, ◌^◌, ◌<◌, ◌≤◌, true, not, IsTrue, List, [], ◌∷◌, ◌++◌, All, Any, Option, Some, None, is_some, Result, Ok, Err}
 use Rattle.byteorder.specs.Endian.{little_bytes}
 use Rattle.pl_base.specs.Address.{vpn_of}

@@ -1,5 +1,4 @@
--- An event of the host at one leaf of its tables: it is refused at once, or the leaf's word is read, and it is refused by that word or
--- replaces it.
+-- An event of the host at one leaf of its tables: refused at once, or by the leaf's word, which it else replaces.
 use Rattle.std.specs.Prelude.{ℕ, ◌≡◌, Bool, not, List, [], ◌∷◌, Option, Some, None, unwrap_or, Result, Ok, Err}
 use Rattle.std.specs.List.{list_any}
 use Rattle.pl_base.specs.Address.{vpn_of}

@@ -1,5 +1,4 @@
--- The events of `unmap`: a leaf is cleared and a fence is posted; and once nobody is lacking, the fence is left and the page has one
--- mapping less.
+-- The events of `unmap`: a leaf is cleared and a fence is posted; and, once nobody is lacking, the page has one mapping less.
 use Rattle.std.specs.Prelude.{ℕ, ◌≡◌, ◌-◌, ◌*◌, ◌<◌, ◌==◌, ◌⊎◌, IsTrue, List, slice_set, Option, Some, None}
 use Rattle.pl_base.specs.Address.{vpn_of}
 use Rattle.pl_base.specs.Perms.{are_page_perms}

@@ -1,6 +1,4 @@
 //! The monitor's events of the host's mappings: `map` sets a leaf of the host's tables; `unmap` clears one, waits for all harts, and ends.
-//!
-//! `map` is one event. `unmap` begins by `unmap_begin`, which posts a fence, and ends by `unmap_end` once nobody is lacking.
 #![tactic(auto)]
 
 mod laws;

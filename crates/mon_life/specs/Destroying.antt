@@ -1,5 +1,4 @@
--- The events of `destroy`: the number is dying, and a fence of its whole space is posted; and once nobody is lacking, its pages are zeroed
--- pages of the host, the number is free, and the fence is left.
+-- The events of `destroy`: the number is dying, and its whole space is fenced; and, once nobody is lacking, it and its pages are given back.
 use Rattle.std.specs.Prelude.{ℕ, List, fold, slice_set, Option, Some, None}
 use Rattle.pl_base.specs.declared.number.EncNo.{EncNo}
 use Rattle.pl_base.specs.declared.refusal.No.{No}

@@ -1,5 +1,4 @@
--- When a number may be made, and what the pages come to that its line puts, once all of them stand: the image in the number's pages, and
--- tables that walk to its space. When it may be given back, and what that leaves.
+-- When a number may be made, and what its pages and tables then come to; when it may be given back, and what that leaves.
 use Rattle.std.specs.Prelude.{ℕ, ◌≡◌, ◌≢◌, ◌↔◌, ◌+◌, ◌-◌, ◌*◌, ◌/◌, ◌%◌, ◌<◌, ◌≤◌, true, false, IsTrue, List, length, map, All, slice_get, Option, Some, None}
 use Rattle.byteorder.specs.Endian.{little_number}
 use Rattle.pl_base.specs.Bytes.{bytes_at, zero_page}

@@ -1,7 +1,4 @@
 //! The monitor's steps that make enclaves and shadows, enter enclaves, and give them back.
-//!
-//! `create` and `shadow` begin by `create_begin`, and then put one page with each `create_step`. `run` and `resume` begin by `run_begin`.
-//! `destroy` begins by `destroy_begin`, which posts a fence, and ends by `destroy_end` once nobody is lacking.
 #![tactic(auto)]
 
 mod destroying;

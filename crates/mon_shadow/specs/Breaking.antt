@@ -1,5 +1,4 @@
--- The event that breaks a page of a forked number (copy on write): the shared page is read through the trees and put into the number's next spare,
--- the leaf leads there with all permissions of the image's page, the page is the number's own, and a fence of its address is posted.
+-- The event that breaks a page of a forked number (copy on write): the copy, the leaf, the record and the fence.
 use Rattle.std.specs.Prelude.{ℕ, ◌≡◌, List, slice_get, Option, Some}
 use Rattle.std.specs.Option.{option_map_or}
 use Rattle.pl_base.specs.declared.access.Mode.TheVariants.{User}

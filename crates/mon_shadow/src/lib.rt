@@ -1,7 +1,4 @@
 //! The monitor's steps for shadows and their forks.
-//!
-//! `fork` begins by `fork_begin`; `grant` and `drop` are one step each. `break_page` breaks a page that a forked number shares and its enclave
-//! stores to.
 #![tactic(auto)]
 
 mod break_laws;

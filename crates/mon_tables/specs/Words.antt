@@ -1,11 +1,12 @@
--- The words of page tables (RISC-V Privileged Architecture, Sv39 page table entry): V 1, R 2, W 4, X 8, U 16, A 64, D 128, and from bit 10 on
--- the number of the physical page.
+-- The words of page tables (RISC-V Privileged Architecture, Sv39 page table entry).
 use Rattle.std.specs.Prelude.{ℕ, ◌+◌, ◌*◌, if◌then◌else◌}
 use Rattle.pl_base.specs.Perms.{grants}
 use Rattle.pl_base.specs.declared.access.Kind.TheVariants.{Store}
 use Rattle.pl_base.specs.declared.access.Mode.{Mode}
 use Rattle.pl_base.specs.declared.access.Mode.TheVariants.{Super, User}
 use Rattle.pl_base.specs.declared.perms.Perms.{Perms}
+
+-- Bits: V 1, R 2, W 4, X 8, U 16, A 64, D 128, and from bit 10 on the number of the physical page.
 
 -- the physical page number of a page of off-chip memory, which begins at 0x80000000
 abbrev pub ppn_of_page : ℕ → ℕ

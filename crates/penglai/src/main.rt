@@ -1,5 +1,4 @@
-//! The program: the process's words, standard input and standard output, handed to the top call. Why it isn't done, if it isn't,
-//! is told on standard error.
+//! The program: the process's words, standard input and output, handed to the top call; why it isn't done is told on standard error.
 #![tactic(auto)]
 
 mod advice;

@@ -1,5 +1,4 @@
--- What the top call read and wrote, for each status that it ends with. The counts of faults and the bytes are those of
--- the source and the sink that it was handed, where these tell them.
+-- What the top call read and wrote, for each status that it ends with.
 use Rattle.std.specs.Prelude.{◌≡◌, ◌≤◌, ◌⊎◌, ⊤, ℕ, List, [], ◌∷◌, ◌++◌, codes, decimal, Option, Some, None, option_map, Ok, Err, if◌then◌else◌}
 use Rattle.std.specs.Str.{bytes_eq}
 use Rattle.pl_io.specs.Numbers.{dec_value}
@@ -23,6 +22,8 @@ use Rattle.penglai_main.specs.declared.status.Status.TheVariants as status_is
 use Rattle.penglai_main.specs.Ends.{Ends, Reads, ReadsToEnd, Writes, WritesPrefix, WritesNothing, Failed}
 use Rattle.penglai_main.specs.Measure.{measurements_text}
 use Rattle.penglai_main.specs.Play.{Gives, IsRunOf, run_text}
+
+-- The counts of faults and the bytes are those of the source and the sink that it was handed, where these tell them.
 
 -- the words are exactly `solo`, or `measure`, or `generate` and a decimal number up to 65,535
 abbrev pub command_of : List (List ℕ) → Option Command

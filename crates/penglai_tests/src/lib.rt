@@ -1,5 +1,4 @@
-//! Tests of the top call and of whole runs, over sources and sinks in memory: what no row of `rows/` can show. There is nothing here but
-//! tests.
+//! Tests of the top call and of whole runs, over sources and sinks in memory: what no row of `rows/` can show.
 #![tactic(auto)]
 
 #[cfg(test)]

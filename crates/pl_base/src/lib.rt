@@ -1,6 +1,4 @@
 //! Plain types that every layer shares: addresses, numbers, permissions, places, states and refusals.
-//!
-//! A page is named by its number from the start of off-chip memory, a `u32`.
 #![tactic(auto)]
 
 mod access;

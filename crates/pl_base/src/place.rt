@@ -1,3 +1,5 @@
+// Places of off-chip memory.
+
 /// A place of off-chip memory that a tree guards.
 #[derive(Clone, Copy, PartialEq, Eq, Debug)]
 pub enum Place {

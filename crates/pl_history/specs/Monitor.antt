@@ -1,5 +1,4 @@
--- The abstract monitor's state: who owns each page, the host's memory and mappings, the enclave numbers, the attacks, and how
--- far each actor's lines are answered.
+-- The abstract monitor's state: owners, the host's memory and mappings, the enclave numbers, the attacks, and how far each actor is.
 use Rattle.std.specs.Prelude.{ℕ, ◌+◌, ◌==◌, nat_lt, Bool, true, false, if◌then◌else◌, List, [], ◌++◌, length, map, find, count_by, replicate, Option, Some, None, option_map, slice_get, unwrap_or}
 use Rattle.pl_base.specs.Pages.{is_among}
 use Rattle.pl_base.specs.declared.state.State.{State}

@@ -1,6 +1,4 @@
 //! What the program reads from and writes to: sources and sinks that count their faults, numbers as texts, and texts of several pieces.
-//!
-//! `MemSource` and `MemSink` stand in memory and fail by a list. `StdSource` and `StdSink` are the edge to std's readers and writers.
 #![tactic(auto)]
 
 mod edge;

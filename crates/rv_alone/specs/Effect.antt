@@ -1,5 +1,4 @@
--- What an instruction does to the registers and to pc, and which access, call or trap it is
--- (RISC-V Unprivileged ISA, RV64I and the M extension; the causes of traps are the Privileged Architecture's).
+-- What an instruction does to the registers and to pc, and which access, call or trap it is (RISC-V Unprivileged ISA, RV64I and M).
 use Rattle.std.specs.Prelude.{◌≡◌, ℕ, ℤ, pos, ◌+ℤ◌, ◌+◌, ◌*◌, ◌/◌, ◌%◌, ◌^◌, ◌<◌, ◌==◌, Bool, if◌then◌else◌, List, slice_index, slice_set, IsTrue}
 use Rattle.std.specs.Option.{option_map_or}
 use Rattle.pl_base.specs.Width.{is_width}

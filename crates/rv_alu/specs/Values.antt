@@ -1,5 +1,4 @@
 -- What the operations and the comparisons of branches give (RISC-V Unprivileged ISA, RV64I and the M extension).
--- A register is a number below 2^64; read as signed it is a whole number from -2^63 to 2^63 - 1.
 use Rattle.std.specs.Prelude.{ℕ, ◌+◌, ◌-◌, ◌*◌, ◌/◌, ◌%◌, ◌^◌, ◌<◌, ◌≡◌, ◌≢◌, Bool, not, ◌==◌, nat_lt, if◌then◌else◌, ℤ, pos, ◌-ℤ◌, ◌*ℤ◌, ◌≤ℤ◌, int_lt, int_div, int_rem, unsigned_abs, bit_and, bit_or, bit_xor}
 use Rattle.std.specs.Int.{int_div_euclid, int_rem_euclid}
 use Rattle.rv_insn.specs.Word.{signed}
@@ -7,6 +6,8 @@ use Rattle.rv_insn.specs.declared.insn.AluOp.{AluOp}
 use Rattle.rv_insn.specs.declared.insn.AluOp.TheVariants.{Add, Sub, Sll, Slt, Sltu, Xor, Srl, Sra, Or, And, Mul, Mulh, Mulhsu, Mulhu, Div, Divu, Rem, Remu, Addw, Subw, Sllw, Srlw, Sraw, Mulw, Divw, Divuw, Remw, Remuw}
 use Rattle.rv_insn.specs.declared.insn.Cond.{Cond}
 use Rattle.rv_insn.specs.declared.insn.Cond.TheVariants.{Beq, Bne, Blt, Bge, Bltu, Bgeu}
+
+-- A register is a number below 2^64; read as signed it is a whole number from -2^63 to 2^63 - 1.
 
 -- a whole number modulo 2^width
 abbrev pub wrapped : ℕ → ℤ → ℕ

@@ -1,5 +1,4 @@
-//! The values of the operations of RV64I with the M extension, and the comparisons of its branches
-//! (RISC-V Unprivileged ISA).
+//! The values of the operations of RV64I with the M extension, and the comparisons of its branches (RISC-V Unprivileged ISA).
 #![tactic(auto)]
 
 mod branching;

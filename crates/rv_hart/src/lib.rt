@@ -1,5 +1,4 @@
-//! How a hart translates an address, one table word at a time: what it asks for next, and what a word teaches it
-//! (RISC-V Privileged Architecture, Sv39; the TLB is a list of our own).
+//! How a hart translates an address, one table word at a time, by a TLB of our own (RISC-V Privileged Architecture, Sv39).
 #![tactic(auto)]
 
 mod law;

@@ -1,3 +1,5 @@
+// The fields of an instruction's word.
+
 /// The fields of a word, as the R format has them. In the other formats immediates lie in some of them.
 #[derive(Clone, Copy)]
 pub struct Fields {

@@ -1,6 +1,4 @@
 //! The instructions of RV64I with the M extension: their words decoded and encoded (RISC-V Unprivileged ISA).
-//!
-//! `specs/Table.antt` lists each instruction with its encoding. A word is illegal where it stands in no row.
 #![tactic(auto)]
 
 mod decoding;

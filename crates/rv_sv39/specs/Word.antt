@@ -1,5 +1,4 @@
 -- One word of a page table (RISC-V Privileged Architecture, Sv39 page-table entry).
--- Bits: V 0, R 1, W 2, X 3, U 4, G 5, A 6, D 7, RSW 9:8, PPN 53:10. G and RSW are ignored.
 use Rattle.std.specs.Prelude.{ℕ, ◌+◌, ◌*◌, ◌/◌, ◌%◌, ◌^◌, Bool, ◌==◌, ◌&&◌, ◌||◌, not}
 use Rattle.std.specs.Int.{bit_at}
 use Rattle.pl_base.specs.declared.access.Kind.{Kind}
@@ -9,6 +8,8 @@ use Rattle.pl_base.specs.declared.access.Mode.TheVariants.{Super, User}
 use Rattle.pl_base.specs.declared.address.Ppn.{Ppn}
 use Rattle.pl_base.specs.declared.address.Vpn.{Vpn}
 use Rattle.pl_base.specs.declared.perms.Perms.{Perms}
+
+-- Bits: V 0, R 1, W 2, X 3, U 4, G 5, A 6, D 7, RSW 9:8, PPN 53:10. G and RSW are ignored.
 
 -- a bit of the word is set
 abbrev pub has : ℕ → ℕ → Bool

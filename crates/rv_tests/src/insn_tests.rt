@@ -1,5 +1,4 @@
-// Words of the standard's tables, and words beside them.
-// `tools/check_encodings` assembles each comment that begins with a mnemonic, and compares it with the word in its line.
+// Words of the standard's tables, and words beside them; `tools/check_encodings` assembles each comment that begins with a mnemonic.
 use rv_insn::{AluOp, Cond, Insn, decode, encode};
 use std::process::Abort;
 

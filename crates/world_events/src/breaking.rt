@@ -1,5 +1,4 @@
-// What breaking a page takes (copy on write): which page of its image an access is to break, the copy with its fence, and the instruction that
-// starts anew once every other hart has acknowledged that.
+// What breaking a page takes (copy on write): which page an access is to break, its copy, and the instruction that starts anew.
 ghost use Rattle.std.specs.Prelude.{◌≡◌, ◌≤◌, ◌<◌, ◌↔◌, IsTrue, OnErr, length, slice_get};
 ghost use Rattle.std.specs.Fn.{FnReturnsAt};
 ghost use Rattle.std.specs.Option.{IsSomeAnd, option_and_then, option_copied, option_map_or};

@@ -1,5 +1,4 @@
-// How a hart translates an access: in which view it is made, what it asks for next, and what the word of a table teaches it; and how words
-// of pages are read and written through the trees.
+// How a hart translates an access, and how words of pages are read and written through the trees.
 ghost use Rattle.std.specs.Prelude.{◌≡◌, ◌≤◌, ◌<◌, ◌*◌, ◌%◌, IsTrue, length};
 ghost use Rattle.std.specs.Fn.{FnReturnsAt};
 ghost use Rattle.pl_base.specs.Width.{is_width};

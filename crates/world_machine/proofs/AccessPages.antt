@@ -1,5 +1,4 @@
--- Where the accesses of a kept world lead: words of tables to guarded pages, those of the host to the host's pages, those of a number to its
--- own, or to shared ones.
+-- Where the accesses of a kept world lead: words of tables to guarded pages, the host's to its pages, a number's to its own or shared ones.
 use Rattle.std.proofs.Common.{◌≡◌, ◌≢◌, ◌⊎◌, ℕ, zero, suc, ◌+◌, ◌*◌, ◌%◌, ◌<◌, ◌≤◌, Bool, true, false, cond, List, [], ◌∷◌, slice_get, Option, Some, None, option_map, refl, sym, ap, ◌∙◌, subst, arith, inl, inr}
 use Rattle.std.specs.Prelude.{Contains}
 use Rattle.std.specs.List.{AllByRecursion}

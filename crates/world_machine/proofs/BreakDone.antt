@@ -1,5 +1,4 @@
--- A page that is broken: the spare has the shared page's bytes and takes its place, the leaf leads there, and the fence of the page is posted. The
--- world keeps what worlds keep.
+-- A page that is broken has its copy, leaf, record and fence; and the world keeps what worlds keep.
 use Rattle.std.proofs.Common.{◌≡◌, ◌≢◌, ℕ, ◌+◌, ◌*◌, ◌<◌, eqb, if◌then◌else◌, Bool, true, false, List, [], ◌∷◌, length, slice_get, Option, Some, None, refl, sym, ap, ◌∙◌, subst, arith, inl, inr, length-set}
 use Rattle.std.specs.Prelude.{Contains, slice_set}
 use Rattle.std.specs.List.{All, AllByRecursion}

@@ -1,5 +1,4 @@
--- The event of a store to a page that is shared: the copy of the page is done, refused at a place of one of its three paths, or broken off by a
--- collision; or no spare is left. Each keeps what a world keeps.
+-- The event of a store to a shared page keeps what a world keeps: copied, refused at a place, broken off by a collision, or without a spare.
 use Rattle.std.proofs.Common.{◌≡◌, ◌≢◌, ◌⊎◌, ℕ, ◌+◌, ◌*◌, ◌/◌, ◌<◌, ◌≤◌, Bool, true, false, List, [], ◌∷◌, length, Some, None, refl, sym, ap, ◌∙◌, subst, arith, inl, inr}
 use Rattle.std.specs.Prelude.{Contains, IsTrue, slice_get, slice_set}
 use Rattle.std.specs.Option.{option_map_or}

@@ -1,5 +1,4 @@
--- What the breaks that may still be made cost: no more where a record shares no more pages, less where a page is broken, more where a number is
--- forked.
+-- What the breaks that may still be made cost: no more with fewer shared pages, less at each break, more at a fork.
 use Rattle.std.proofs.Common.{◌≡◌, ℕ, ◌+◌, ◌*◌, ◌≤◌, true, false, cond, List, [], ◌∷◌, length, map, sum_by, slice_get, Option, Some, None, refl, ap, arith}
 use Rattle.std.specs.Prelude.{count_by, unwrap_or}
 use Rattle.std.proofs.Math.Nat.{mul-le-mul_left}

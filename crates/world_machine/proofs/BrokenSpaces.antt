@@ -1,5 +1,4 @@
--- A page that is broken: the record has a page of its own in place of the shared one, with the same bytes; its leaf is another, and no other
--- mapping changes.
+-- A page that is broken: the record has its own page there with the same bytes, its leaf is another, and no other mapping changes.
 use Rattle.std.proofs.Common.{◌≡◌, ◌≢◌, ℕ, zero, suc, ◌+◌, eqb, false, List, [], ◌∷◌, map, slice_get, Option, Some, refl, sym, ap, ◌∙◌, arith}
 use Rattle.std.specs.Prelude.{slice_set, zip, if◌then◌else◌}
 use Rattle.std.specs.List.{AllByRecursion}

@@ -1,5 +1,4 @@
--- In a kept world each dying number has the fence of its space, each page that was broken its own, and each fence is one of these, or of an open
--- removal.
+-- In a kept world dying numbers and broken pages have their fences, and each other fence is one of an open removal.
 use Rattle.std.proofs.Common.{◌≡◌, ◌⊎◌, ℕ, ◌==◌, Bool, true, false, if◌then◌else◌, List, Option, Some, None, option_map, refl, sym, ap, ◌∙◌, subst, inl, inr}
 use Rattle.pl_base.specs.declared.number.EncNo.{EncNo}
 use Rattle.mon_enclave.specs.declared.enclave.Enclave.{Enclave}

@@ -1,5 +1,4 @@
--- An event that gives a number back and answers its line, as the end of `destroy` and `drop` are: all but the number's pages, its record and the hart's
--- line stays.
+-- An event that gives a number back and answers its line, as the end of `destroy` and `drop` do, leaves all else as it was.
 use Rattle.std.proofs.Common.{◌≡◌, ◌≢◌, ℕ, ◌+◌, ◌*◌, ◌<◌, ◌≤◌, true, false, List, length, [], Option, Some, None, slice_get, refl, sym, ap, ◌∙◌, subst, arith}
 use Rattle.std.specs.Prelude.{Contains, slice_set}
 use Rattle.std.proofs.lemmas.Bool.{false≢true}

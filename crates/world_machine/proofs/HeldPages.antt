@@ -1,5 +1,4 @@
--- The pages of a number that is given back: they are its own, the host maps none of them, and they become zeroed pages of the host; all others
--- stay.
+-- The pages of a number that is given back are its own, the host maps none of them, and they become zeroed pages of the host.
 use Rattle.std.proofs.Common.{◌≡◌, ◌≢◌, ℕ, ◌+◌, ◌*◌, ◌/◌, ◌<◌, eqb, ◌==◌, true, false, if◌then◌else◌, List, [], ◌∷◌, count_by, length, Some, option_map, slice_get, sym, ap, ◌∙◌, subst, arith, inl, inr}
 use Rattle.std.specs.Prelude.{Contains}
 use Rattle.std.specs.List.{All, AllByRecursion}

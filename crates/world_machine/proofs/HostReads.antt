@@ -1,5 +1,4 @@
--- A load or a store of the host reads a word of the host's tables: its walk learns, the space has no page for it, a place faults, or a collision
--- is found.
+-- A load or a store of the host reads a word of the host's tables: learned, no page, a place that faults, or a collision.
 use Rattle.std.proofs.Common.{◌≡◌, ℕ, ◌+◌, ◌*◌, ◌/◌, ◌%◌, ◌<◌, ◌≤◌, false, List, None, sym, ap, ◌∙◌, subst, arith}
 use Rattle.std.specs.Prelude.{Contains, Result, Ok, Err}
 use Rattle.std.proofs.lemmas.Bool.{eq-eqb}

@@ -1,5 +1,4 @@
--- The host's space in a kept world: its mappings, and those that are being taken away, lead to pages of the host, with permissions that a page
--- may have; the host's tables walk to exactly this space; and what a hart may use answers an access.
+-- The host's space in a kept world: where its mappings lead, that its tables walk to exactly these, and which accesses a hart may make.
 use Rattle.std.proofs.Common.{◌≡◌, ◌⊎◌, ℕ, ◌+◌, ◌*◌, ◌<◌, ◌≤◌, ◌==◌, eqb, Bool, true, false, cond, List, [], ◌∷◌, count_by, filter, Option, Some, None, refl, sym, ap, ◌∙◌, subst, arith, inl, inr}
 use Rattle.std.specs.Prelude.{IsTrue}
 use Rattle.std.specs.List.{All}

@@ -1,5 +1,4 @@
--- The translations of the host's accesses in a kept world: an access that is translated goes by a mapping that the hart may use, and a walk that
--- learns from the words of the host's tables stands.
+-- The translations of the host's accesses in a kept world: each goes by a mapping that the hart may use, and walks that learn stand.
 use Rattle.std.proofs.Common.{◌≡◌, ◌⊎◌, ℕ, ◌+◌, ◌*◌, ◌%◌, ◌<◌, true, false, List, Some, None, sym, ap, ◌∙◌, subst, arith, inl, inr}
 use Rattle.std.specs.Prelude.{Contains}
 use Rattle.std.specs.List.{All}

@@ -1,5 +1,4 @@
--- A fence of a number's space is posted by the line that gives the number back, or that broke a page of it; a hart with a number under way has
--- acknowledged every fence of it.
+-- Who posted a fence of a number's space; and a hart with a number under way has acknowledged every fence of it.
 use Rattle.std.proofs.Common.{◌≡◌, ◌≢◌, ◌⊎◌, ℕ, ◌+◌, ◌<◌, List, Option, Some, None, slice_set, sym, ap, ◌∙◌, subst, arith, refl, inl, inr}
 use Rattle.pl_base.specs.declared.number.EncNo.{EncNo}
 use Rattle.pl_base.specs.declared.number.Space.{Space}

@@ -1,5 +1,4 @@
--- A load that was answered by a value, and a store that was answered `ok`, went by a mapping that was there, grants it, and leads to a page of the
--- host to which the protection entries let it through.
+-- An access of the host that was made went by a mapping that was there and grants it, to a page of the host that protection leaves open.
 use Rattle.std.proofs.Common.{◌≡◌, ℕ, ◌+◌, ◌%◌, ◌==◌, Bool, true, false, not, if◌then◌else◌, List, [], ◌∷◌, Option, Some, None, refl, sym, ap, ◌∙◌, subst, inl, inr}
 use Rattle.std.specs.Option.{option_map_or}
 use Rattle.byteorder.specs.Endian.{little_bytes}

@@ -1,5 +1,4 @@
--- The translations of a live enclave number in a kept world: an access that is translated goes to the page that it reaches, and a walk that
--- learns from the words of the number's tables stands.
+-- The translations of a live enclave number in a kept world: each goes to the page that it reaches, and walks that learn stand.
 use Rattle.std.proofs.Common.{◌≡◌, ℕ, ◌+◌, ◌*◌, ◌%◌, ◌<◌, ◌≤◌, Bool, true, false, cond, List, Option, Some, None, sym, ap, ◌∙◌, subst, arith, inl, inr}
 use Rattle.std.specs.List.{All}
 use Rattle.std.proofs.lemmas.Bool.{cases_Bool}

@@ -1,5 +1,4 @@
--- In a legal history a begun `unmap` has the mapping of its address among the removals, until it is answered `ok`. After that no mapping of the page
--- is left.
+-- In a legal history a begun `unmap` has its mapping among the removals until it is answered; after that the page has no mapping left.
 use Rattle.std.proofs.Common.{◌≡◌, ◌≢◌, ℕ, ◌+◌, ◌≤◌, ◌==◌, ◌&&◌, eqb, Bool, true, false, not, if◌then◌else◌, List, [], ◌∷◌, ◌++◌, is_some, cond, filter, count_by, Option, Some, None, option_map, refl, sym, ap, ◌∙◌, subst, inl, inr, arith}
 use Rattle.std.specs.Option.{option_map_or}
 use Rattle.std.proofs.lemmas.Bool.{and_from, and_parts, cases_Bool, eq-eqb, eqb-false, eqb-true, ne_eqb}

@@ -1,5 +1,4 @@
--- The page that an access reaches by a number's tables is the one that is located; where none is reached, none is located, or a shared page is to
--- be broken.
+-- The page that an access reaches by a number's tables is the one that is located; where none is, there is none, or a shared page to break.
 use Rattle.std.proofs.Common.{◌≡◌, ℕ, leb, Bool, true, false, cond, List, slice_get, Option, Some, None, refl, ap, ◌∙◌}
 use Rattle.std.specs.Prelude.{option_and_then, option_map}
 use Rattle.std.proofs.lemmas.Option.{slice_get-map}

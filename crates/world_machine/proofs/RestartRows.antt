@@ -1,5 +1,4 @@
--- A run whose enclave broke a page starts its instruction anew, once nobody's acknowledgement is lacking: it leaves its fence, and nothing else
--- changes.
+-- A run whose enclave broke a page starts its instruction anew once nobody is lacking: it leaves its fence, and nothing else changes.
 use Rattle.std.proofs.Common.{◌≡◌, ◌≢◌, ℕ, ◌<◌, Bool, List, [], Option, Some, None, refl, sym, ap, ◌∙◌, subst}
 use Rattle.std.specs.Prelude.{slice_set}
 use Rattle.std.proofs.lemmas.List.Elements.{All-weaker}

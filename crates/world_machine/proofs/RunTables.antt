@@ -1,5 +1,4 @@
--- An access of a run by way of its translation: a word of the number's tables is read and learned, or the access is made in the page that is
--- reached, or there is none.
+-- An access of a run by way of its translation: a table's word is learned, or the access is made in its page, or there is none.
 use Rattle.std.proofs.Common.{◌≡◌, ℕ, ◌+◌, ◌*◌, ◌<◌, ◌≤◌, Bool, true, List, length, Option, Some, None, option_map, refl, sym, ap, ◌∙◌, subst, arith, inr}
 use Rattle.byteorder.specs.Endian.{little_number}
 use Rattle.pl_base.specs.Bytes.{bytes_at}

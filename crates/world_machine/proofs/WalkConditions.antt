@@ -1,5 +1,4 @@
--- What the code asks of a kept world: a walk that stands is one, a word that it asks for stands in a page that there is, at a multiple of 8, and
--- so does the page of an access that is translated.
+-- What the code asks of a kept world: walks that stand, words in pages that there are, and pages of translated accesses.
 use Rattle.std.proofs.Common.{◌≡◌, ℕ, ◌*◌, ◌%◌, ◌<◌, ◌≤◌, ◌==◌, true, List, sym, subst, arith}
 use Rattle.pl_base.specs.Address.{vpn_of}
 use Rattle.pl_base.specs.declared.access.Kind.{Kind}

@@ -1,5 +1,4 @@
--- What the walk of an address asks for and learns: an access goes by a translation that stands, and a walk that stands does so with one more
--- word of the tables.
+-- What the walk of an address asks for and learns: a translation that stands, or a walk that stands with one more word of the tables.
 use Rattle.std.proofs.Common.{◌≡◌, ◌⊎◌, ℕ, ◌-◌, ◌<◌, Bool, true, false, cond, find, List, [], ◌∷◌, drop, length, Option, Some, None, refl, sym, subst, arith, inl, inr}
 use Rattle.std.specs.Prelude.{Result, Ok, Err, nat_lt}
 use Rattle.std.specs.List.{All}

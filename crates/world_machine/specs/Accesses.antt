@@ -1,6 +1,4 @@
--- Where the accesses of a reached world lead: each root walks to its space, and a walk reads words of guarded pages alone. An access of an
--- enclave number goes to the number's own page, or but for a store to its shadow's, and one of the host to a page of the host, by a mapping that the
--- hart may use.
+-- Where the accesses of a reached world lead: walks to guarded pages, numbers to their own and shared pages, the host to its own.
 use Rattle.std.specs.Prelude.{◌≡◌, ◌≢◌, ◌⊎◌, ℕ, ◌+◌, ◌%◌, ◌<◌, ◌≤◌, true, false, Option, Some, None, Err, Contains}
 use Rattle.pl_base.specs.Address.{vpn_of}
 use Rattle.pl_base.specs.Perms.{grants}

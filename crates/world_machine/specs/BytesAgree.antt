@@ -1,5 +1,4 @@
--- The host's bytes off chip are the abstract monitor's; and bytes off chip are other than they were last written only where an attack
--- changed a byte.
+-- The host's bytes off chip are the abstract monitor's, and differ from those last written only where an attack changed a byte.
 use Rattle.std.specs.Prelude.{◌≡◌, ℕ, ◌+◌, ◌*◌, ◌<◌, ◌≤◌, nat_le, nat_lt, ◌&&◌, Bool, true, false, List, take, slice_get, Option, Some, Contains}
 use Rattle.std.specs.List.{list_any}
 use Rattle.mem_geom.specs.Parts.{page_bytes}

@@ -1,5 +1,4 @@
--- Each enclave number that is dying has the fence of its space, and each page that was broken, whose instruction hasn't started anew, the fence of
--- that page; each fence is one of these, or of an open removal.
+-- Each dying number has the fence of its space, and each broken page its own until its instruction starts anew; others are of open removals.
 use Rattle.std.specs.Prelude.{◌≡◌, ◌⊎◌, ℕ, Some, None}
 use Rattle.pl_base.specs.declared.state.State.TheVariants as state_is
 use Rattle.mon_enclave.specs.Records.{enclave_at}

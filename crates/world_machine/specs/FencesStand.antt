@@ -1,5 +1,4 @@
--- Each open removal of a hart is of one mapping, its line is the `unmap` of that, and a fence of its page is posted; a hart that gives a number
--- back has posted a fence of its space, and one whose enclave broke a page a fence of that page; there is no other fence.
+-- Each open removal is of one mapping, of an `unmap` under way, and has its fence; each other fence is of a number's space, or a broken page.
 use Rattle.std.specs.Prelude.{◌≡◌, ◌⊎◌, ℕ, ◌==◌, true, List, [], ◌∷◌, length, map, filter, Option, Some, None}
 use Rattle.pl_base.specs.HartSet.{space_of_number}
 use Rattle.pl_base.specs.declared.perms.Perms.{Perms}

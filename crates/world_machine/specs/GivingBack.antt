@@ -1,5 +1,4 @@
--- The events of `destroy`: the number is dying, and once every hart has acknowledged that, its pages are zeroed pages of the host. And the event of
--- `drop`, which does the same to a shadow.
+-- The events of `destroy`, by which a number is dying and then, once every hart acknowledged that, given back; and that of `drop`.
 use Rattle.std.specs.Prelude.{ℕ, Option, Some, None}
 use Rattle.pl_base.specs.declared.number.EncNo.{EncNo}
 use Rattle.pl_base.specs.declared.refusal.No.{No}

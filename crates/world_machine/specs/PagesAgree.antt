@@ -1,5 +1,4 @@
--- Which pages a record has, by what the abstract monitor gave the number: of one that was forked, each page of the image that was broken is a
--- spare, in order, and each other one the shadow's; the spares that are left are those given last.
+-- Which pages a record has, by what the abstract monitor gave the number, and which of a fork's pages are broken.
 use Rattle.std.specs.Prelude.{◌≡◌, ℕ, suc, ◌+◌, ◌≤◌, Bool, true, false, List, [], ◌∷◌, length, map, drop, slice_index, Option, Some, None, option_map}
 use Rattle.rv_alone.specs.Alone.{place_in, written_pages}
 use Rattle.rv_alone.specs.Flat.{Image}
@@ -9,6 +8,8 @@ use Rattle.mon_enclave.specs.declared.enclave.PageKind.TheVariants.{Own, Shared}
 use Rattle.pl_history.specs.declared.setup.SetupParts.{SetupParts}
 use Rattle.pl_history.specs.Monitor.{Number, flat_image}
 use Rattle.world_machine.specs.Making.{image_of}
+
+-- Each page of a fork's image that was broken is a spare, in order, and each other one the shadow's; the spares left are those given last.
 
 -- the k-th page that was broken is the k-th spare, and any other the shadow's
 abbrev pub forked_kind : List ℕ → Option ℕ → ℕ → PageKind

@@ -1,5 +1,4 @@
--- The events of `run` and `resume`: the monitor step that begins, the words of walks, the fetch, the access to data, the page fault, the break of a
--- page and the start anew after it.
+-- The events of `run` and `resume`: the beginning, walks, the fetch, accesses to data, page faults, breaks and what starts anew after them.
 use Rattle.std.specs.Prelude.{ℕ, ◌+◌, ◌%◌, ◌==◌, Bool, if◌then◌else◌, List, [], ◌∷◌, ◌++◌, length, slice_get, slice_set, Option, Some, None, option_map, Result, Ok, Err}
 use Rattle.std.specs.Option.{option_map_or}
 use Rattle.pl_base.specs.HartSet.{space_of_number}

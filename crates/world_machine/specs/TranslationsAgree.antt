@@ -1,6 +1,4 @@
--- Each translation that a hart has, in its TLB or found by its walk, is one of the space in which it was made; or it is being taken away, and
--- the fence of that still needs this hart: of the host's space with its mapping, of a number's with the number, or with the page that it broke. A
--- walk under way stands at the table that the words give.
+-- Each translation of a hart is one of its space, or is being taken away by a fence that still needs this hart; and walks under way stand.
 use Rattle.std.specs.Prelude.{◌≡◌, ◌⊎◌, ℕ, ◌+◌, ◌<◌, true, List, length, Option, Some, None, option_map}
 use Rattle.std.specs.List.{All}
 use Rattle.pl_base.specs.Address.{vpn_of}

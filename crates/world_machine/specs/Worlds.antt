@@ -1,6 +1,4 @@
--- The world as plain data: the setup, the controller, the owners of pages, the records of enclave numbers, each hart's translations and
--- fence, each hart's line under way, how many lines of each actor are answered, the history, the collision that is kept, and how many moves
--- were made.
+-- The world as plain data: all that a run's machine has, from its setup to the count of its moves.
 use Rattle.std.specs.Prelude.{ℕ, List, [], slice_get, slice_set, unwrap_or, Option}
 use Rattle.rv_tlb.specs.declared.tlb.TlbEntry.{TlbEntry}
 use Rattle.pl_base.specs.declared.place.Place.{Place}

@@ -1,4 +1,3 @@
--- The answers of the five tests give the verdict.
 use Rattle.std.proofs.Common.{◌≡◌, ℕ, ◌/◌, ◌%◌, true, false, List, rules}
 use Rattle.std.specs.Str.{bytes_eq}
 use Rattle.pl_digest.specs.Nodes.{entry}

@@ -1,4 +1,3 @@
--- Each byte of a slice of bytes is below 256.
 use Rattle.std.proofs.Common.{◌<◌, arith}
 use Rattle.std.proofs.lemmas.List.Elements.{All-from_get_or}
 use Rattle.mon_image.proofs.page.bytes_fit.Goals as goal

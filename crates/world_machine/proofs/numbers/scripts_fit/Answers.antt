@@ -1,4 +1,3 @@
--- One script more, and all scripts at the end.
 use Rattle.std.proofs.Common.{◌∙◌, List, subst}
 use Rattle.std.proofs.lemmas.List.{take_all}
 use Rattle.std.proofs.lemmas.List.Elements.{All-more}
