@@ -1,6 +1,8 @@
 // The forms of lines: a word, and its arguments.
 ghost use Rattle.std.specs.Prelude.{◌≡◌, IfOk};
-ghost use Rattle.world_lines.specs.Forms.{line_of_one, line_of_two, map_line_of, line_of_pages, line_of_three, line_of, attack_line_of_one, after_line_of, attack_line_of_two, attack_line_of_three, attack_line_of};
+ghost use Rattle.pl_io.specs.Numbers.{hex_value};
+ghost use Rattle.world_lines.specs.Arguments.{address_of, budget_of, enclave_of, short_of, small_number_of};
+ghost use Rattle.world_lines.specs.Forms.{both, all_three, line_of_one, line_of_two, map_line_of, line_of_pages, line_of_three, line_of, attack_line_of_one, after_line_of, attack_line_of_two, attack_line_of_three, attack_line_of};
 
 use crate::arguments::{
     address_of, budget_of, enclave_of, hex_bytes_of, length_of, name_of, perms_of_text, short_of,
@@ -35,47 +37,114 @@ fn line_of_one(word: &[u8], a: &[u8]) -> Option<Line>
     None
 }
 
+fn store_line_of(a: &[u8], b: &[u8]) -> Option<Line>
+    ensures { result ≡ both (λ va word. Line.Store va word) (address_of a.now) (hex_value b.now) }
+{
+    Some(Line::Store {
+        va: address_of(a)?,
+        word: read_hex(b)?,
+    })
+}
+
+fn grant_line_of(a: &[u8], b: &[u8]) -> Option<Line>
+    ensures { result ≡ both (λ e page. Line.Grant e page) (enclave_of a.now) (small_number_of b.now) }
+{
+    Some(Line::Grant {
+        e: enclave_of(a)?,
+        page: small_number_of(b)?,
+    })
+}
+
+fn run_line_of(a: &[u8], b: &[u8]) -> Option<Line>
+    ensures { result ≡ both (λ e budget. Line.Run e budget) (enclave_of a.now) (budget_of b.now) }
+{
+    Some(Line::Run {
+        e: enclave_of(a)?,
+        budget: budget_of(b)?,
+    })
+}
+
+fn resume_line_of(a: &[u8], b: &[u8]) -> Option<Line>
+    ensures { result ≡ both (λ e budget. Line.Resume e budget) (enclave_of a.now) (budget_of b.now) }
+{
+    Some(Line::Resume {
+        e: enclave_of(a)?,
+        budget: budget_of(b)?,
+    })
+}
+
+fn send_line_of(a: &[u8], b: &[u8]) -> Option<Line>
+    ensures { result ≡ both (λ e word. Line.Send e word) (enclave_of a.now) (hex_value b.now) }
+{
+    Some(Line::Send {
+        e: enclave_of(a)?,
+        word: read_hex(b)?,
+    })
+}
+
+// A hart's `after`.
+fn wait_line_of(a: &[u8], b: &[u8]) -> Option<Line>
+    ensures { result ≡ both (λ actor count. Line.After actor count) (short_of a.now) (small_number_of b.now) }
+{
+    Some(Line::After {
+        actor: short_of(a)?,
+        count: small_number_of(b)?,
+    })
+}
+
 #[tactic(auto, unfolding(crate::specs::Forms::line_of_two))]
 fn line_of_two(word: &[u8], a: &[u8], b: &[u8]) -> Option<Line>
     ensures { result ≡ line_of_two word.now a.now b.now }
 {
     if word == b"store".as_slice() {
-        return Some(Line::Store {
-            va: address_of(a)?,
-            word: read_hex(b)?,
-        });
+        return store_line_of(a, b);
     }
     if word == b"grant".as_slice() {
-        return Some(Line::Grant {
-            e: enclave_of(a)?,
-            page: small_number_of(b)?,
-        });
+        return grant_line_of(a, b);
     }
     if word == b"run".as_slice() {
-        return Some(Line::Run {
-            e: enclave_of(a)?,
-            budget: budget_of(b)?,
-        });
+        return run_line_of(a, b);
     }
     if word == b"resume".as_slice() {
-        return Some(Line::Resume {
-            e: enclave_of(a)?,
-            budget: budget_of(b)?,
-        });
+        return resume_line_of(a, b);
     }
     if word == b"send".as_slice() {
-        return Some(Line::Send {
-            e: enclave_of(a)?,
-            word: read_hex(b)?,
-        });
+        return send_line_of(a, b);
     }
     if word == b"after".as_slice() {
-        return Some(Line::After {
-            actor: short_of(a)?,
-            count: small_number_of(b)?,
-        });
+        return wait_line_of(a, b);
     }
     None
+}
+
+fn create_line_of(a: &[u8], b: &[u8], pages: Option<Listed<u32>>) -> Option<Line>
+    ensures { result ≡ all_three (λ e image pages. Line.Create e image pages) (enclave_of a.now) (short_of b.now) pages }
+{
+    Some(Line::Create {
+        e: enclave_of(a)?,
+        image: short_of(b)?,
+        pages: pages?,
+    })
+}
+
+fn shadow_line_of(a: &[u8], b: &[u8], pages: Option<Listed<u32>>) -> Option<Line>
+    ensures { result ≡ all_three (λ e image pages. Line.Shadow e image pages) (enclave_of a.now) (short_of b.now) pages }
+{
+    Some(Line::Shadow {
+        e: enclave_of(a)?,
+        image: short_of(b)?,
+        pages: pages?,
+    })
+}
+
+fn fork_line_of(a: &[u8], b: &[u8], pages: Option<Listed<u32>>) -> Option<Line>
+    ensures { result ≡ all_three (λ s e pages. Line.Fork s e pages) (enclave_of a.now) (enclave_of b.now) pages }
+{
+    Some(Line::Fork {
+        s: enclave_of(a)?,
+        e: enclave_of(b)?,
+        pages: pages?,
+    })
 }
 
 // A line that names pages of the host.
@@ -83,25 +152,13 @@ fn line_of_pages(word: &[u8], a: &[u8], b: &[u8], pages: Option<Listed<u32>>) ->
     ensures { result ≡ line_of_pages word.now a.now b.now pages }
 {
     if word == b"create".as_slice() {
-        return Some(Line::Create {
-            e: enclave_of(a)?,
-            image: short_of(b)?,
-            pages: pages?,
-        });
+        return create_line_of(a, b, pages);
     }
     if word == b"shadow".as_slice() {
-        return Some(Line::Shadow {
-            e: enclave_of(a)?,
-            image: short_of(b)?,
-            pages: pages?,
-        });
+        return shadow_line_of(a, b, pages);
     }
     if word == b"fork".as_slice() {
-        return Some(Line::Fork {
-            s: enclave_of(a)?,
-            e: enclave_of(b)?,
-            pages: pages?,
-        });
+        return fork_line_of(a, b, pages);
     }
     None
 }
