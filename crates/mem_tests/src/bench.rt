@@ -64,7 +64,7 @@ impl<D: Digester, F: Fn(&[SlotUse]) -> usize + Drop> Bench<D, F> {
         self.ctl.root()
     }
 
-    pub(crate) fn mounted(&self) -> &[SlotUse] {
+    fn mounted(&self) -> &[SlotUse] {
         self.ctl.mounted()
     }
 
@@ -76,6 +76,29 @@ impl<D: Digester, F: Fn(&[SlotUse]) -> usize + Drop> Bench<D, F> {
         assert!(rt; offset < 4096);
         assert!(rt; offset % 8 == 0);
         self.ctl.read_word(page, offset)
+    }
+
+    /// Reads a word that is so.
+    pub(crate) fn reads(&mut self, rt: &impl Abort, page: u32, offset: u16, word: u64)
+        requires { NamesPosition F.Fn self.old }
+        ensures { NamesPosition F.Fn self.new }
+    {
+        let answer = self.read(rt, page, offset);
+        assert_eq!(rt; answer, Ok(word), "page {page}, offset {offset}");
+    }
+
+    /// Reads the first word of a page, for which a place is broken.
+    pub(crate) fn breaks(&mut self, rt: &impl Abort, page: u32, place: Place)
+        requires { NamesPosition F.Fn self.old }
+        ensures { NamesPosition F.Fn self.new }
+    {
+        let answer = self.read(rt, page, 0);
+        assert_eq!(rt; answer, Err(Broken::Fault(place)), "page {page}");
+    }
+
+    /// Has these zones mounted.
+    pub(crate) fn mounts(&self, rt: &impl Abort, slots: &[SlotUse]) {
+        assert_eq!(rt; self.mounted(), slots);
     }
 
     pub(crate) fn write(
@@ -151,6 +174,14 @@ impl<D: Digester, F: Fn(&[SlotUse]) -> usize + Drop> Bench<D, F> {
         assert!(rt; taken.page < 64 * u32::from(self.zones));
         let offset = 64 * u16::from(taken.block_no);
         self.ctl.tell(sealed, Op::Read { offset })
+    }
+
+    /// Reads the first word of a sealed block, which is so, by its path.
+    pub(crate) fn tells(&mut self, rt: &impl Abort, sealed: &Sealed<D>, word: u64)
+        requires { NamesPosition F.Fn self.old }
+        ensures { NamesPosition F.Fn self.new }
+    {
+        assert_eq!(rt; self.tell_read(rt, sealed), Ok(word));
     }
 
     /// Writes the first word of a sealed block by its path.

@@ -6,6 +6,7 @@ use mem_ctl::{Broken, Told};
 use mem_slots::{Choice, SlotUse, fewest_uses, first_mounted};
 use pl_base::Place;
 use pl_digest::{OneByte, Sha};
+use std::alloc::Global;
 use std::process::Abort;
 use std::test::Fail;
 
@@ -37,11 +38,17 @@ fn start_words_stand_under_the_root(rt: HostRuntime) -> Result<(), Fail> {
     let oldest = Choice::new(|slots: &[SlotUse]| first_mounted(slots));
     let mut bench = Bench::new(rt.alloc(), Sha, 1, 1, &words, oldest)?;
     assert_eq!(rt; bench.root(), START_ROOT);
-    assert!(rt; bench.mounted().is_empty());
-    assert_eq!(rt; bench.read(&rt, 1, 8), Ok(3));
+    bench.mounts(&rt, &[]);
+    bench.reads(&rt, 1, 8, 3);
     assert_eq!(rt; bench.write(&rt, 63, 4088, 4), Ok(()));
-    assert_eq!(rt; bench.read(&rt, 63, 4088), Ok(4));
-    assert_eq!(rt; bench.mounted(), [slot(0, 3)].as_slice());
+    bench.reads(&rt, 63, 4088, 4);
+    bench.mounts(&rt, &[slot(0, 3)]);
+    Ok(())
+}
+
+#[test]
+fn two_zones_stand_under_one_root(rt: HostRuntime) -> Result<(), Fail> {
+    let words = [(0, 0, 1), (1, 0, 2), (1, 8, 3)];
     let oldest = Choice::new(|slots: &[SlotUse]| first_mounted(slots));
     let two = Bench::new(rt.alloc(), Sha, 2, 1, &words, oldest)?;
     assert_eq!(rt; two.root(), TWO_ZONES_ROOT);
@@ -88,8 +95,8 @@ fn each_place_of_a_path_breaks_as_itself(rt: HostRuntime) -> Result<(), Fail> {
     let over = Some(Broken::Fault(table_node(0)));
     assert_eq!(rt; bench.attempt(&rt, Access::Get), over);
     bench.flip(&rt, 0x8006_4900);
-    assert!(rt; bench.mounted().is_empty());
-    assert_eq!(rt; bench.read(&rt, 20, 0), Ok(0));
+    bench.mounts(&rt, &[]);
+    bench.reads(&rt, 20, 0, 0);
     let all = [true, true, true, true];
     let not_new = [true, true, true, false];
     let whole = [false, false, true, false];
@@ -116,8 +123,8 @@ fn other_bytes_of_the_same_digest_collide(rt: HostRuntime) -> Result<(), Fail> {
     let mut bench = Bench::new(rt.alloc(), OneByte, 1, 1, &[], oldest)?;
     collides(&rt, &mut bench, 0x8006_5100, (255, 46), TOP);
     collides(&rt, &mut bench, 0x8006_4900, (255, 106), table_node(0));
-    assert!(rt; bench.mounted().is_empty());
-    assert_eq!(rt; bench.read(&rt, 20, 0), Ok(0));
+    bench.mounts(&rt, &[]);
+    bench.reads(&rt, 20, 0, 0);
     collides(&rt, &mut bench, 0x8006_4800, (254, 84), node(4, 0));
     collides(&rt, &mut bench, 0x8006_4200, (254, 84), node(3, 2));
     collides(&rt, &mut bench, 0x8006_1400, (254, 84), node(2, 20));
@@ -167,10 +174,10 @@ fn a_page_breaks_under_the_node_of_another(rt: HostRuntime) -> Result<(), Fail> 
     bench.peek(&rt, 0x8006_1400, &mut of_20);
     bench.peek(&rt, 0x8006_1500, &mut of_21);
     bench.attack(&rt, 0x8006_1400, &of_21);
-    assert_eq!(rt; bench.read(&rt, 20, 0), Err(Broken::Fault(node(2, 20))));
-    assert_eq!(rt; bench.read(&rt, 21, 0), Ok(0x0202_0202_0202_0202));
+    bench.breaks(&rt, 20, node(2, 20));
+    bench.reads(&rt, 21, 0, 0x0202_0202_0202_0202);
     bench.attack(&rt, 0x8006_1500, &of_20);
-    assert_eq!(rt; bench.read(&rt, 21, 0), Err(Broken::Fault(node(2, 21))));
+    bench.breaks(&rt, 21, node(2, 21));
     Ok(())
 }
 
@@ -181,23 +188,22 @@ const NINE_ZONES_TABLE: u64 = 0x8000_0000 + 9 * 411_904;
 fn an_eviction_is_refused_or_stays(rt: HostRuntime) -> Result<(), Fail> {
     let oldest = Choice::new(|slots: &[SlotUse]| first_mounted(slots));
     let mut bench = Bench::new(rt.alloc(), Sha, 9, 1, &[], oldest)?;
-    assert_eq!(rt; bench.read(&rt, 0, 0), Ok(0));
-    let zone_0 = [slot(0, 1)];
+    bench.reads(&rt, 0, 0, 0);
     bench.flip(&rt, NINE_ZONES_TABLE + 8 * 256);
-    assert_eq!(rt; bench.read(&rt, 512, 0), Err(Broken::Fault(TOP)));
+    bench.breaks(&rt, 512, TOP);
     bench.flip(&rt, NINE_ZONES_TABLE + 8 * 256);
     bench.flip(&rt, NINE_ZONES_TABLE);
-    assert_eq!(rt; bench.read(&rt, 512, 0), Err(Broken::Fault(table_node(0))));
-    assert_eq!(rt; bench.mounted(), zone_0.as_slice());
+    bench.breaks(&rt, 512, table_node(0));
+    bench.mounts(&rt, &[slot(0, 1)]);
     bench.flip(&rt, NINE_ZONES_TABLE);
     let root = bench.root();
     bench.flip(&rt, NINE_ZONES_TABLE + 256);
-    assert_eq!(rt; bench.read(&rt, 512, 0), Err(Broken::Fault(table_node(1))));
-    assert!(rt; bench.mounted().is_empty());
+    bench.breaks(&rt, 512, table_node(1));
+    bench.mounts(&rt, &[]);
     assert_eq!(rt; bench.root(), root);
     bench.flip(&rt, NINE_ZONES_TABLE + 256);
-    assert_eq!(rt; bench.read(&rt, 512, 0), Ok(0));
-    assert_eq!(rt; bench.mounted(), [slot(8, 1)].as_slice());
+    bench.reads(&rt, 512, 0, 0);
+    bench.mounts(&rt, &[slot(8, 1)]);
     Ok(())
 }
 
@@ -208,31 +214,29 @@ fn table_node(index: u8) -> Place {
 // Three zones and two slots, the first word of each zone its number and 7: they are read alike whichever zone is evicted.
 fn reads_in_turn<F: Fn(&[SlotUse]) -> usize + Drop>(
     rt: &impl Abort,
-    bench: &mut Bench<Sha, F>,
+    alloc: Global,
+    choice: Choice<F>,
     slots: [SlotUse; 2],
-)
-    requires { NamesPosition F.Fn bench.old }
+) -> Result<(), Fail>
+    requires { NamesPosition F.Fn choice }
 {
+    let words = [(0, 0, 7), (64, 0, 8), (128, 0, 9)];
+    let mut bench = Bench::new(alloc, Sha, 3, 2, &words, choice)?;
     for page in [0u32, 64, 128, 0, 64, 64] {
-        let word = bench.read(rt, page, 0);
-        assert_eq!(rt; word, Ok(u64::from(page) / 64 + 7));
+        bench.reads(rt, page, 0, u64::from(page) / 64 + 7);
     }
-    assert_eq!(rt; bench.mounted(), slots.as_slice());
+    bench.mounts(rt, &slots);
+    Ok(())
 }
 
 #[test]
 fn each_choice_reads_the_same_words(rt: HostRuntime) -> Result<(), Fail> {
-    let words = [(0, 0, 7), (64, 0, 8), (128, 0, 9)];
     let oldest = Choice::new(|slots: &[SlotUse]| first_mounted(slots));
-    let mut bench = Bench::new(rt.alloc(), Sha, 3, 2, &words, oldest)?;
-    reads_in_turn(&rt, &mut bench, [slot(0, 1), slot(1, 2)]);
+    reads_in_turn(&rt, rt.alloc(), oldest, [slot(0, 1), slot(1, 2)])?;
     let last = Choice::new(|slots: &[SlotUse]| slots.len() - 1);
-    let mut bench = Bench::new(rt.alloc(), Sha, 3, 2, &words, last)?;
-    reads_in_turn(&rt, &mut bench, [slot(0, 2), slot(1, 2)]);
+    reads_in_turn(&rt, rt.alloc(), last, [slot(0, 2), slot(1, 2)])?;
     let least = Choice::new(|slots: &[SlotUse]| fewest_uses(slots));
-    let mut bench = Bench::new(rt.alloc(), Sha, 3, 2, &words, least)?;
-    reads_in_turn(&rt, &mut bench, [slot(0, 1), slot(1, 2)]);
-    Ok(())
+    reads_in_turn(&rt, rt.alloc(), least, [slot(0, 1), slot(1, 2)])
 }
 
 fn slot(zone: u8, uses: u64) -> SlotUse {
@@ -246,11 +250,11 @@ fn an_asked_path_is_told_under_its_root(rt: HostRuntime) -> Result<(), Fail> {
     let oldest = Choice::new(|slots: &[SlotUse]| first_mounted(slots));
     let mut bench = Bench::new(rt.alloc(), Sha, 2, 1, &[(20, 0, 5)], oldest)?;
     let sealed = bench.ask(&rt, 20, 0).map_err(|_| Refused)?;
-    assert_eq!(rt; bench.mounted(), [slot(0, 0)].as_slice());
-    assert_eq!(rt; bench.tell_read(&rt, &sealed), Ok(5));
-    assert_eq!(rt; bench.mounted(), [slot(0, 1)].as_slice());
+    bench.mounts(&rt, &[slot(0, 0)]);
+    bench.tells(&rt, &sealed, 5);
+    bench.mounts(&rt, &[slot(0, 1)]);
     assert_eq!(rt; bench.tell_write(&rt, &sealed, 9), Ok(5));
-    assert_eq!(rt; bench.read(&rt, 20, 0), Ok(9));
+    bench.reads(&rt, 20, 0, 9);
     let taken_root = sealed.taken().root;
     match bench.tell_read(&rt, &sealed) {
         Err(
@@ -261,7 +265,7 @@ fn an_asked_path_is_told_under_its_root(rt: HostRuntime) -> Result<(), Fail> {
         ) => assert!(rt; old == taken_root && root != taken_root),
         other => panic!(rt; "{other:?}"),
     }
-    assert_eq!(rt; bench.read(&rt, 64, 0), Ok(0));
+    bench.reads(&rt, 64, 0, 0);
     let again = Told::Again {
         taken_root,
         root: None,
@@ -303,7 +307,7 @@ fn raw_calls_touch_off_chip_bytes_alone(rt: HostRuntime) -> Result<(), Fail> {
     assert_eq!(rt; bench.raw_read(&rt, 20, 8), 0);
     assert!(rt; !bench.attack(&rt, 0x8001_4000, &[0; 64]));
     assert!(rt; bench.attack(&rt, 0x8001_4008, &[5]));
-    assert_eq!(rt; bench.read(&rt, 20, 8), Ok(5));
+    bench.reads(&rt, 20, 8, 5);
     assert_eq!(rt; bench.into_choice().pick(&[slot(0, 1)]), 0);
     Ok(())
 }

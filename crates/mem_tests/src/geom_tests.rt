@@ -1,9 +1,11 @@
 // Places and bytes, at their edges.
 ghost use Rattle.std.specs.Prelude.{◌≡◌};
+ghost use Rattle.mem_geom.specs.Layout.{Exists};
 
 use crate::threads::sent;
 use mem_geom::{Dram, place_range};
 use pl_base::Place;
+use std::process::Abort;
 use std::test::Fail;
 
 fn block(page: u32, block: u8) -> Place
@@ -24,34 +26,40 @@ fn root_node(level: u8, index: u8) -> Place
     Place::RootNode { level, index }
 }
 
+fn stands(rt: &impl Abort, zones: u8, place: &Place, range: (u64, u32))
+    requires { Exists zones place.now }
+{
+    assert_eq!(rt; place_range(zones, place), range, "{place:?}");
+}
+
 #[test]
 fn places_stand_where_the_layout_says(rt: HostRuntime) {
-    assert_eq!(rt; place_range(1, &block(0, 0)), (0x8000_0000, 64));
-    assert_eq!(rt; place_range(1, &block(20, 1)), (0x8001_4040, 64));
-    assert_eq!(rt; place_range(1, &block(63, 63)), (0x8003_ffc0, 64));
-    assert_eq!(rt; place_range(1, &node(1, 0, 0)), (0x8004_0000, 256));
-    assert_eq!(rt; place_range(1, &node(1, 0, 511)), (0x8005_ff00, 256));
-    assert_eq!(rt; place_range(1, &node(2, 0, 0)), (0x8006_0000, 256));
-    assert_eq!(rt; place_range(1, &node(2, 0, 63)), (0x8006_3f00, 256));
-    assert_eq!(rt; place_range(1, &node(3, 0, 0)), (0x8006_4000, 256));
-    assert_eq!(rt; place_range(1, &node(3, 0, 7)), (0x8006_4700, 256));
-    assert_eq!(rt; place_range(1, &node(4, 0, 0)), (0x8006_4800, 256));
-    assert_eq!(rt; place_range(1, &root_node(1, 0)), (0x8006_4900, 256));
-    assert_eq!(rt; place_range(1, &root_node(1, 7)), (0x8006_5000, 256));
-    assert_eq!(rt; place_range(1, &root_node(2, 0)), (0x8006_5100, 256));
+    stands(&rt, 1, &block(0, 0), (0x8000_0000, 64));
+    stands(&rt, 1, &block(20, 1), (0x8001_4040, 64));
+    stands(&rt, 1, &block(63, 63), (0x8003_ffc0, 64));
+    stands(&rt, 1, &node(1, 0, 0), (0x8004_0000, 256));
+    stands(&rt, 1, &node(1, 0, 511), (0x8005_ff00, 256));
+    stands(&rt, 1, &node(2, 0, 0), (0x8006_0000, 256));
+    stands(&rt, 1, &node(2, 0, 63), (0x8006_3f00, 256));
+    stands(&rt, 1, &node(3, 0, 0), (0x8006_4000, 256));
+    stands(&rt, 1, &node(3, 0, 7), (0x8006_4700, 256));
+    stands(&rt, 1, &node(4, 0, 0), (0x8006_4800, 256));
+    stands(&rt, 1, &root_node(1, 0), (0x8006_4900, 256));
+    stands(&rt, 1, &root_node(1, 7), (0x8006_5000, 256));
+    stands(&rt, 1, &root_node(2, 0), (0x8006_5100, 256));
 }
 
 #[test]
 fn places_of_the_last_zone_stand_last(rt: HostRuntime) {
-    assert_eq!(rt; place_range(64, &block(4095, 63)), (0x80ff_ffc0, 64));
-    assert_eq!(rt; place_range(64, &node(1, 0, 0)), (0x8100_0000, 256));
-    assert_eq!(rt; place_range(64, &node(1, 63, 0)), (0x818f_f700, 256));
-    assert_eq!(rt; place_range(64, &node(1, 63, 511)), (0x8191_f600, 256));
-    assert_eq!(rt; place_range(64, &node(2, 63, 63)), (0x8192_3600, 256));
-    assert_eq!(rt; place_range(64, &node(3, 63, 7)), (0x8192_3e00, 256));
-    assert_eq!(rt; place_range(64, &node(4, 63, 0)), (0x8192_3f00, 256));
-    assert_eq!(rt; place_range(64, &root_node(1, 7)), (0x8192_4700, 256));
-    assert_eq!(rt; place_range(64, &root_node(2, 0)), (0x8192_4800, 256));
+    stands(&rt, 64, &block(4095, 63), (0x80ff_ffc0, 64));
+    stands(&rt, 64, &node(1, 0, 0), (0x8100_0000, 256));
+    stands(&rt, 64, &node(1, 63, 0), (0x818f_f700, 256));
+    stands(&rt, 64, &node(1, 63, 511), (0x8191_f600, 256));
+    stands(&rt, 64, &node(2, 63, 63), (0x8192_3600, 256));
+    stands(&rt, 64, &node(3, 63, 7), (0x8192_3e00, 256));
+    stands(&rt, 64, &node(4, 63, 0), (0x8192_3f00, 256));
+    stands(&rt, 64, &root_node(1, 7), (0x8192_4700, 256));
+    stands(&rt, 64, &root_node(2, 0), (0x8192_4800, 256));
 }
 
 #[test]

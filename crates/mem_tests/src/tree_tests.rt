@@ -1,11 +1,12 @@
 // Paths that hold, break, and are renewed, over two digest functions.
-ghost use Rattle.std.specs.Prelude.{◌≡◌};
+ghost use Rattle.std.specs.Prelude.{◌≡◌, ◌<◌};
 
 use crate::nodes::eight;
 use crate::threads::sent;
 use mem_tree::{Taken, Verdict, page_nodes};
 use pl_base::Place;
 use pl_digest::{OneByte, Sha};
+use std::process::Abort;
 
 // SHA-256 of 64 zero bytes; of eight of that; and so on up to the root of a zone of zero bytes.
 const ZERO_DIGESTS: [[u8; 32]; 5] = [
@@ -81,6 +82,24 @@ fn a_zero_page_has_the_nodes_of_a_plain_loop(rt: HostRuntime) {
     }
 }
 
+// The path breaks at a place.
+fn breaks(rt: &impl Abort, taken: &Taken<Sha>, place: Place)
+    requires page { taken.now.page < 4096 }
+    requires block { taken.now.block_no < 64 }
+{
+    let verdict = taken.seal().verdict();
+    assert_eq!(rt; verdict, Verdict::Breaks(place));
+}
+
+// A node over page 229.
+fn node(level: u8, index: u16) -> Place {
+    Place::Node {
+        level,
+        zone: 3,
+        index,
+    }
+}
+
 #[test]
 fn a_path_breaks_at_the_first_changed_place(rt: HostRuntime) {
     assert_eq!(rt; zero_path().seal().verdict(), Verdict::Holds);
@@ -90,41 +109,18 @@ fn a_path_breaks_at_the_first_changed_place(rt: HostRuntime) {
         page: 229,
         block: 13,
     };
-    assert_eq!(rt; changed.seal().verdict(), Verdict::Breaks(block));
+    breaks(&rt, &changed, block);
     changed.level1[255] ^= 128;
-    let level1 = Place::Node {
-        level: 1,
-        zone: 3,
-        index: 297,
-    };
-    assert_eq!(rt; changed.seal().verdict(), Verdict::Breaks(level1));
+    breaks(&rt, &changed, node(1, 297));
     changed.level2[0] ^= 1;
-    let level2 = Place::Node {
-        level: 2,
-        zone: 3,
-        index: 37,
-    };
-    assert_eq!(rt; changed.seal().verdict(), Verdict::Breaks(level2));
+    breaks(&rt, &changed, node(2, 37));
     changed.level3[1] ^= 2;
-    let level3 = Place::Node {
-        level: 3,
-        zone: 3,
-        index: 4,
-    };
-    assert_eq!(rt; changed.seal().verdict(), Verdict::Breaks(level3));
+    breaks(&rt, &changed, node(3, 4));
     changed.level4[31] ^= 4;
-    let level4 = Place::Node {
-        level: 4,
-        zone: 3,
-        index: 0,
-    };
-    assert_eq!(rt; changed.seal().verdict(), Verdict::Breaks(level4));
+    breaks(&rt, &changed, node(4, 0));
     let mut under_another_root = zero_path();
     under_another_root.root[0] ^= 1;
-    assert_eq!(rt;
-        under_another_root.seal().verdict(),
-        Verdict::Breaks(level4)
-    );
+    breaks(&rt, &under_another_root, node(4, 0));
 }
 
 #[test]

@@ -197,84 +197,87 @@ const BROKEN: &str =
 
 const OWN: &str = "image 3 pages [Own(9), Own(4)] spares [] of 0 parent None";
 
+// Calls on number 1, what each answers, and the record then, where it changes.
+const CALLS: [(Call, Result<Option<u64>, No>, &str); 18] = [
+    (Call::Send(5), Err(No::NoEnclave), ""),
+    (
+        Call::Build,
+        Ok(None),
+        "Building on 0 pc 10008 x2 12000 retired 0 sent [] 0 out [] 0 0",
+    ),
+    (Call::Take, Err(No::NoEnclave), ""),
+    (
+        Call::SetState(State::Fresh),
+        Ok(None),
+        "Fresh on 0 pc 10008 x2 12000 retired 0 sent [] 0 out [] 0 0",
+    ),
+    (
+        Call::Send(5),
+        Ok(None),
+        "Fresh on 0 pc 10008 x2 12000 retired 0 sent [5] 0 out [] 0 0",
+    ),
+    (
+        Call::Enter(2),
+        Ok(None),
+        "On on 2 pc 10008 x2 12000 retired 0 sent [5] 0 out [] 0 0",
+    ),
+    (
+        Call::Receive,
+        Ok(Some(5)),
+        "On on 2 pc 10008 x2 12000 retired 0 sent [5] 1 out [] 0 0",
+    ),
+    (Call::Receive, Ok(None), ""),
+    (
+        Call::Send(8),
+        Ok(None),
+        "On on 2 pc 10008 x2 12000 retired 0 sent [5, 8] 1 out [] 0 0",
+    ),
+    (
+        Call::Retire(0x1000c),
+        Ok(None),
+        "On on 2 pc 1000c x2 12000 retired 1 sent [5, 8] 1 out [] 0 0",
+    ),
+    (
+        Call::SendOut(6),
+        Ok(Some(6)),
+        "On on 2 pc 1000c x2 12000 retired 1 sent [5, 8] 1 out [6] 0 0",
+    ),
+    (Call::Take, Err(No::Empty), ""),
+    (
+        Call::SendOut(7),
+        Ok(Some(7)),
+        "On on 2 pc 1000c x2 12000 retired 1 sent [5, 8] 1 out [6, 7] 0 0",
+    ),
+    (
+        Call::Left(Why::Budget),
+        Ok(None),
+        "Paused on 2 pc 1000c x2 12000 retired 1 sent [5, 8] 1 out [6, 7] 2 0",
+    ),
+    (
+        Call::Take,
+        Ok(Some(6)),
+        "Paused on 2 pc 1000c x2 12000 retired 1 sent [5, 8] 1 out [6, 7] 2 1",
+    ),
+    (
+        Call::Take,
+        Ok(Some(7)),
+        "Paused on 2 pc 1000c x2 12000 retired 1 sent [5, 8] 1 out [6, 7] 2 2",
+    ),
+    (Call::Take, Err(No::Empty), ""),
+    (
+        Call::Receive,
+        Ok(Some(8)),
+        "Paused on 2 pc 1000c x2 12000 retired 1 sent [5, 8] 2 out [6, 7] 2 2",
+    ),
+];
+
 #[test]
 fn a_number_from_free_to_built_again(rt: HostRuntime) -> Result<(), Fail> {
     let alloc = rt.alloc();
     let image = image(&rt, alloc, 0x10008, &[Perms(5), Perms(3)])?;
     let mut enclaves = Enclaves::new(alloc, 2)?;
     is_record(&rt, alloc, &enclaves, 1, FREE)?;
-    for (call, want, after) in [
-        (Call::Send(5), Err(No::NoEnclave), ""),
-        (
-            Call::Build,
-            Ok(None),
-            "Building on 0 pc 10008 x2 12000 retired 0 sent [] 0 out [] 0 0",
-        ),
-        (Call::Take, Err(No::NoEnclave), ""),
-        (
-            Call::SetState(State::Fresh),
-            Ok(None),
-            "Fresh on 0 pc 10008 x2 12000 retired 0 sent [] 0 out [] 0 0",
-        ),
-        (
-            Call::Send(5),
-            Ok(None),
-            "Fresh on 0 pc 10008 x2 12000 retired 0 sent [5] 0 out [] 0 0",
-        ),
-        (
-            Call::Enter(2),
-            Ok(None),
-            "On on 2 pc 10008 x2 12000 retired 0 sent [5] 0 out [] 0 0",
-        ),
-        (
-            Call::Receive,
-            Ok(Some(5)),
-            "On on 2 pc 10008 x2 12000 retired 0 sent [5] 1 out [] 0 0",
-        ),
-        (Call::Receive, Ok(None), ""),
-        (
-            Call::Send(8),
-            Ok(None),
-            "On on 2 pc 10008 x2 12000 retired 0 sent [5, 8] 1 out [] 0 0",
-        ),
-        (
-            Call::Retire(0x1000c),
-            Ok(None),
-            "On on 2 pc 1000c x2 12000 retired 1 sent [5, 8] 1 out [] 0 0",
-        ),
-        (
-            Call::SendOut(6),
-            Ok(Some(6)),
-            "On on 2 pc 1000c x2 12000 retired 1 sent [5, 8] 1 out [6] 0 0",
-        ),
-        (Call::Take, Err(No::Empty), ""),
-        (
-            Call::SendOut(7),
-            Ok(Some(7)),
-            "On on 2 pc 1000c x2 12000 retired 1 sent [5, 8] 1 out [6, 7] 0 0",
-        ),
-        (
-            Call::Left(Why::Budget),
-            Ok(None),
-            "Paused on 2 pc 1000c x2 12000 retired 1 sent [5, 8] 1 out [6, 7] 2 0",
-        ),
-        (
-            Call::Take,
-            Ok(Some(6)),
-            "Paused on 2 pc 1000c x2 12000 retired 1 sent [5, 8] 1 out [6, 7] 2 1",
-        ),
-        (
-            Call::Take,
-            Ok(Some(7)),
-            "Paused on 2 pc 1000c x2 12000 retired 1 sent [5, 8] 1 out [6, 7] 2 2",
-        ),
-        (Call::Take, Err(No::Empty), ""),
-        (
-            Call::Receive,
-            Ok(Some(8)),
-            "Paused on 2 pc 1000c x2 12000 retired 1 sent [5, 8] 2 out [6, 7] 2 2",
-        ),
-    ] {
+    for (call, want, after) in CALLS {
         step(&rt, alloc, &mut enclaves, &image, call, want, after)?;
     }
     answers(&rt, &mut enclaves, &image, Call::Free, Ok(None));

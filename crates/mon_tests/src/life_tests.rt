@@ -78,32 +78,28 @@ fn run(rt: &impl Abort, enclaves: &mut Enclaves, state: State, first: bool) -> R
     run_begin(enclaves, HartNo(2), EncNo(1), first)
 }
 
+// The number, how many pages its image has, the first so many of these pages, whether it is a shadow, and the answer.
+const BEGUN: [(u8, usize, [u32; 4], usize, bool, Result<(), No>); 12] = [
+    (0, 1, [20, 0, 0, 0], 1, false, Err(No::StillMapped(20))),
+    (0, 1, [22, 22, 0, 0], 2, false, Err(No::Count)),
+    (0, 4, [22, 23, 24, 0], 3, false, Err(No::Count)),
+    (0, 4, [22, 21, 21, 22], 4, false, Err(No::Twice(22))),
+    (0, 4, [20, 21, 8, 22], 4, false, Err(No::NotYours(8))),
+    (0, 2, [21, 64, 0, 0], 2, true, Err(No::NotYours(64))),
+    (0, 2, [21, 20, 0, 0], 2, false, Err(No::StillMapped(20))),
+    (0, 2, [63, 21, 0, 0], 2, false, Err(No::Barred(21))),
+    (0, 2, [63, 9, 0, 0], 2, false, Ok(())),
+    (0, 1, [8, 8, 0, 0], 2, false, Err(No::Exists)),
+    (1, 2, [22, 9, 0, 0], 2, true, Err(No::NotYours(9))),
+    (1, 1, [22, 0, 0, 0], 1, true, Ok(())),
+];
+
 #[test]
 fn numbers_are_begun_or_refused_in_order(rt: HostRuntime) -> Result<(), Fail> {
     let mut owners = owners(rt.alloc())?;
     let mut enclaves = Enclaves::new(rt.alloc(), 2)?;
     let pmp = entries(&rt);
-    for (e, count, pages, len, shadow, want) in [
-        (
-            0u8,
-            1usize,
-            [20u32, 0, 0, 0],
-            1usize,
-            false,
-            Err(No::StillMapped(20)),
-        ),
-        (0, 1, [22, 22, 0, 0], 2, false, Err(No::Count)),
-        (0, 4, [22, 23, 24, 0], 3, false, Err(No::Count)),
-        (0, 4, [22, 21, 21, 22], 4, false, Err(No::Twice(22))),
-        (0, 4, [20, 21, 8, 22], 4, false, Err(No::NotYours(8))),
-        (0, 2, [21, 64, 0, 0], 2, true, Err(No::NotYours(64))),
-        (0, 2, [21, 20, 0, 0], 2, false, Err(No::StillMapped(20))),
-        (0, 2, [63, 21, 0, 0], 2, false, Err(No::Barred(21))),
-        (0, 2, [63, 9, 0, 0], 2, false, Ok(())),
-        (0, 1, [8, 8, 0, 0], 2, false, Err(No::Exists)),
-        (1, 2, [22, 9, 0, 0], 2, true, Err(No::NotYours(9))),
-        (1, 1, [22, 0, 0, 0], 1, true, Ok(())),
-    ] {
+    for (e, count, pages, len, shadow, want) in BEGUN {
         let image = image(&rt, rt.alloc(), count)?;
         let begun = Begun {
             e: EncNo(e),

@@ -84,30 +84,32 @@ fn answer(
     }
 }
 
+const LINES: [(Line, Result<(), No>); 16] = [
+    (Line::Fork(1, 0, [20, 20], 2), Err(No::NoEnclave)),
+    (Line::Fork(0, 0, [20, 20], 2), Err(No::Exists)),
+    (Line::Fork(0, 1, [20, 20], 2), Err(No::Twice(20))),
+    (Line::Fork(0, 1, [20, 22], 2), Err(No::NotYours(22))),
+    (Line::Fork(0, 1, [21, 20], 2), Err(No::StillMapped(20))),
+    (Line::Fork(0, 1, [23, 21], 2), Err(No::Barred(21))),
+    (Line::Grant(1, 23), Err(No::NoEnclave)),
+    (Line::Fork(0, 1, [23, 21], 1), Ok(())),
+    (Line::Grant(1, 8), Err(No::WrongState(State::Building))),
+    (Line::Is(1, State::Fresh), Ok(())),
+    (Line::Grant(1, 23), Err(No::NotYours(23))),
+    (Line::Grant(1, 20), Err(No::StillMapped(20))),
+    (Line::Grant(1, 21), Err(No::Barred(21))),
+    (Line::Grant(1, 9), Ok(())),
+    (Line::Fork(0, 1, [24, 0], 1), Err(No::Exists)),
+    (Line::Fork(0, 2, [0, 0], 0), Ok(())),
+];
+
 #[test]
 fn forks_and_grants_are_refused_in_order(rt: HostRuntime) -> Result<(), Fail> {
     let mut owners = owners(rt.alloc())?;
     map_once(&mut owners, 20);
     let mut enclaves = numbers(&rt, rt.alloc())?;
     let pmp = entries(&rt);
-    for (line, want) in [
-        (Line::Fork(1, 0, [20, 20], 2), Err(No::NoEnclave)),
-        (Line::Fork(0, 0, [20, 20], 2), Err(No::Exists)),
-        (Line::Fork(0, 1, [20, 20], 2), Err(No::Twice(20))),
-        (Line::Fork(0, 1, [20, 22], 2), Err(No::NotYours(22))),
-        (Line::Fork(0, 1, [21, 20], 2), Err(No::StillMapped(20))),
-        (Line::Fork(0, 1, [23, 21], 2), Err(No::Barred(21))),
-        (Line::Grant(1, 23), Err(No::NoEnclave)),
-        (Line::Fork(0, 1, [23, 21], 1), Ok(())),
-        (Line::Grant(1, 8), Err(No::WrongState(State::Building))),
-        (Line::Is(1, State::Fresh), Ok(())),
-        (Line::Grant(1, 23), Err(No::NotYours(23))),
-        (Line::Grant(1, 20), Err(No::StillMapped(20))),
-        (Line::Grant(1, 21), Err(No::Barred(21))),
-        (Line::Grant(1, 9), Ok(())),
-        (Line::Fork(0, 1, [24, 0], 1), Err(No::Exists)),
-        (Line::Fork(0, 2, [0, 0], 0), Ok(())),
-    ] {
+    for (line, want) in LINES {
         let got = answer(&rt, &mut owners, &mut enclaves, &pmp, line);
         assert_eq!(rt; got, want, "{line:?}");
     }
@@ -149,20 +151,35 @@ fn give_back<F>(
 }
 
 #[test]
-fn a_shadow_is_given_back_after_its_forks(rt: HostRuntime) -> Result<(), Fail> {
+fn a_shadow_is_kept_while_it_has_a_fork(rt: HostRuntime) -> Result<(), Fail> {
     let mut ctl = zone(rt.alloc(), Choice::new(oldest))?;
     let mut owners = owners(rt.alloc())?;
     let mut enclaves = numbers(&rt, rt.alloc())?;
-    write(&mut ctl, 21);
-    write(&mut ctl, 22);
-    write(&mut ctl, 63);
     fork(&rt, &mut enclaves);
     let fork = give_back(&rt, &mut ctl, &mut owners, &mut enclaves, FORK);
     assert_eq!(rt; fork, Err(No::NoEnclave));
     let used = give_back(&rt, &mut ctl, &mut owners, &mut enclaves, SHADOW);
     assert_eq!(rt; used, Err(No::InUse(FORK)));
+    Ok(())
+}
+
+// The shadow had a fork, which was given back.
+fn left_alone(rt: &impl Abort, alloc: Global) -> Result<Enclaves, Fail> {
+    let mut enclaves = numbers(rt, alloc)?;
+    fork(rt, &mut enclaves);
     assert!(rt; 1 < enclaves.len());
     enclaves.free(FORK);
+    Ok(enclaves)
+}
+
+#[test]
+fn a_shadow_is_given_back_after_its_forks(rt: HostRuntime) -> Result<(), Fail> {
+    let mut ctl = zone(rt.alloc(), Choice::new(oldest))?;
+    let mut owners = owners(rt.alloc())?;
+    let mut enclaves = left_alone(&rt, rt.alloc())?;
+    write(&mut ctl, 21);
+    write(&mut ctl, 22);
+    write(&mut ctl, 63);
     let given = give_back(&rt, &mut ctl, &mut owners, &mut enclaves, SHADOW);
     assert_eq!(rt; given, Ok(()));
     assert_eq!(rt; words(&ctl), [9, 0, 0]);

@@ -6,6 +6,7 @@ use pl_base::{EncNo, No, Place, State, Why};
 use pl_history::{Answer, Entry, History, put_entry, put_history, put_summary};
 use pl_io::MemSink;
 use std::alloc::Global;
+use std::process::Abort;
 use std::test::Fail;
 
 const BYTES: [u8; 4] = [0xff, 0, 0x0f, 0xab];
@@ -51,6 +52,18 @@ fn line_of(alloc: Global, actor: u8, answer: Answer) -> Result<Vec<u8>, Fail> {
     Ok(Vec::from_slice(alloc, sink.bytes())?)
 }
 
+fn has_line(
+    rt: &impl Abort,
+    alloc: Global,
+    actor: u8,
+    answer: Answer,
+    want: &str,
+) -> Result<(), Fail> {
+    let line = line_of(alloc, actor, answer)?;
+    assert_eq!(rt; line.as_slice(), want.as_bytes(), "{want}");
+    Ok(())
+}
+
 #[test]
 fn each_answer_has_its_line(rt: HostRuntime) -> Result<(), Fail> {
     for (actor, answer, want) in [
@@ -88,8 +101,7 @@ fn each_answer_has_its_line(rt: HostRuntime) -> Result<(), Fail> {
             "x 70 kept 0 ff000fab\n",
         ),
     ] {
-        let line = line_of(rt.alloc(), actor, answer)?;
-        assert_eq!(rt; line.as_slice(), want.as_bytes(), "{want}");
+        has_line(&rt, rt.alloc(), actor, answer, want)?;
     }
     Ok(())
 }
@@ -115,16 +127,19 @@ fn each_reason_to_leave_has_its_line(rt: HostRuntime) -> Result<(), Fail> {
         (5, Why::Fault(NODE), "left 5 fault node 1 2 511"),
         (6, Why::Fault(ROOT_NODE), "left 6 fault root-node 2 0"),
     ] {
-        let line = line_of(alloc, 1, Answer::Left { count, why })?;
         let whole = format!(in alloc; "h1 70 {want}\n")?;
-        assert_eq!(rt; line.as_slice(), whole.as_bytes(), "{want}");
+        has_line(&rt, alloc, 1, Answer::Left { count, why }, whole.as_str())?;
     }
     Ok(())
 }
 
+fn has_line_of_no(rt: &impl Abort, alloc: Global, cause: No, want: &str) -> Result<(), Fail> {
+    let whole = format!(in alloc; "h2 70 no {want}\n")?;
+    has_line(rt, alloc, 2, Answer::No(cause), whole.as_str())
+}
+
 #[test]
 fn each_refusal_has_its_line(rt: HostRuntime) -> Result<(), Fail> {
-    let alloc = rt.alloc();
     for (cause, want) in [
         (No::Misaligned, "2 misaligned"),
         (No::PageFault, "3 page-fault"),
@@ -148,62 +163,69 @@ fn each_refusal_has_its_line(rt: HostRuntime) -> Result<(), Fail> {
         (No::TooMany, "20 too-many"),
         (No::InUse(EncNo(63)), "21 in-use 63"),
     ] {
-        let line = line_of(alloc, 2, Answer::No(cause))?;
-        let whole = format!(in alloc; "h2 70 no {want}\n")?;
-        assert_eq!(rt; line.as_slice(), whole.as_bytes(), "{want}");
-    }
-    for (state, want) in [
-        (State::Free, "free"),
-        (State::Building, "building"),
-        (State::Fresh, "fresh"),
-        (State::On, "on"),
-        (State::Paused, "paused"),
-        (State::Ended, "ended"),
-        (State::Trapped, "trapped"),
-        (State::Faulted, "faulted"),
-        (State::Dying, "dying"),
-        (State::Sealed, "sealed"),
-    ] {
-        let line = line_of(alloc, 2, Answer::No(No::WrongState(state)))?;
-        let whole = format!(in alloc; "h2 70 no 17 wrong-state {want}\n")?;
-        assert_eq!(rt; line.as_slice(), whole.as_bytes(), "{want}");
+        has_line_of_no(&rt, rt.alloc(), cause, want)?;
     }
     Ok(())
 }
 
 #[test]
-fn a_history_is_filled_and_printed(rt: HostRuntime) -> Result<(), Fail> {
-    let alloc = rt.alloc();
-    let mut history = History::new(alloc, 2, 6)?;
+fn each_wrong_state_has_its_line(rt: HostRuntime) -> Result<(), Fail> {
+    for (state, want) in [
+        (State::Free, "17 wrong-state free"),
+        (State::Building, "17 wrong-state building"),
+        (State::Fresh, "17 wrong-state fresh"),
+        (State::On, "17 wrong-state on"),
+        (State::Paused, "17 wrong-state paused"),
+        (State::Ended, "17 wrong-state ended"),
+        (State::Trapped, "17 wrong-state trapped"),
+        (State::Faulted, "17 wrong-state faulted"),
+        (State::Dying, "17 wrong-state dying"),
+        (State::Sealed, "17 wrong-state sealed"),
+    ] {
+        has_line_of_no(&rt, rt.alloc(), No::WrongState(state), want)?;
+    }
+    Ok(())
+}
+
+const FIRST: Entry = Entry {
+    actor: 0,
+    line: 0,
+    answer: Answer::Begun,
+};
+
+const SECOND: Entry = Entry {
+    actor: 1,
+    line: 3,
+    answer: Answer::Kept {
+        pa: 0x8000_0000,
+        from: 3,
+        len: 2,
+    },
+};
+
+#[test]
+fn a_history_is_filled(rt: HostRuntime) -> Result<(), Fail> {
+    let mut history = History::new(rt.alloc(), 2, 6)?;
     assert_eq!(rt; history.room(), (2, 6));
     assert_eq!(rt; history.add_bytes(&BYTES), 0);
     assert_eq!(rt; history.add_bytes(&[0x7f]), 4);
-    assert_eq!(rt; history.room(), (2, 1));
-    assert_eq!(rt; history.bytes(), [0xff, 0, 0x0f, 0xab, 0x7f].as_slice());
-    let first = Entry {
-        actor: 0,
-        line: 0,
-        answer: Answer::Begun,
-    };
-    let second = Entry {
-        actor: 1,
-        line: 3,
-        answer: Answer::Kept {
-            pa: 0x8000_0000,
-            from: 3,
-            len: 2,
-        },
-    };
-    history.add(first);
-    history.add(second);
+    history.add(FIRST);
+    history.add(SECOND);
     assert_eq!(rt; history.room(), (0, 1));
-    assert_eq!(rt; history.entries(), [first, second].as_slice());
-    let mut sink = MemSink::new(alloc, 200, Vec::new(alloc))?;
+    assert_eq!(rt; history.bytes(), [0xff, 0, 0x0f, 0xab, 0x7f].as_slice());
+    assert_eq!(rt; history.entries(), [FIRST, SECOND].as_slice());
+    Ok(())
+}
+
+// Where there is one hart the other actor is the attacker, and where there are two it is hart 1.
+#[test]
+fn a_history_is_printed(rt: HostRuntime) -> Result<(), Fail> {
+    let mut history = History::new(rt.alloc(), 2, 6)?;
+    history.add_bytes(&[0xff, 0, 0x0f, 0xab, 0x7f]);
+    history.add(FIRST);
+    history.add(SECOND);
+    let mut sink = MemSink::new(rt.alloc(), 200, Vec::new(rt.alloc()))?;
     put_history(&mut sink, 1, &history)?;
-    assert_eq!(rt;
-        sink.bytes(),
-        b"h0 0 begun\nx 3 kept 80000000 ab7f\n".as_slice()
-    );
     put_history(&mut sink, 2, &history)?;
     assert_eq!(rt;
         sink.bytes(),
@@ -225,16 +247,18 @@ fn add(history: &mut History, answer: Answer) -> Result<(), Fail> {
     Ok(())
 }
 
+fn has_summary(rt: &impl Abort, alloc: Global, history: &History, want: &[u8]) -> Result<(), Fail> {
+    let mut sink = MemSink::new(alloc, 200, Vec::new(alloc))?;
+    put_summary(&mut sink, history)?;
+    assert_eq!(rt; sink.bytes(), want);
+    Ok(())
+}
+
 #[test]
 fn a_summary_counts_lines_and_words(rt: HostRuntime) -> Result<(), Fail> {
-    let alloc = rt.alloc();
-    let mut history = History::new(alloc, 5, 0)?;
-    let mut sink = MemSink::new(alloc, 200, Vec::new(alloc))?;
-    put_summary(&mut sink, &history)?;
-    assert_eq!(rt;
-        sink.bytes(),
-        b"lines 0\nwords 0\nxor 0000000000000000\n".as_slice()
-    );
+    let mut history = History::new(rt.alloc(), 5, 0)?;
+    let empty = b"lines 0\nwords 0\nxor 0000000000000000\n";
+    has_summary(&rt, rt.alloc(), &history, empty)?;
     for answer in [
         Answer::Begun,
         Answer::Ok,
@@ -244,11 +268,6 @@ fn a_summary_counts_lines_and_words(rt: HostRuntime) -> Result<(), Fail> {
     ] {
         add(&mut history, answer)?;
     }
-    let mut sink = MemSink::new(alloc, 200, Vec::new(alloc))?;
-    put_summary(&mut sink, &history)?;
-    assert_eq!(rt;
-        sink.bytes(),
-        b"lines 4\nwords 2\nxor ff00000000001030\n".as_slice()
-    );
-    Ok(())
+    let five = b"lines 4\nwords 2\nxor ff00000000001030\n";
+    has_summary(&rt, rt.alloc(), &history, five)
 }

@@ -22,7 +22,7 @@ const PIECES: [Piece<'static>; 9] = [
 const TEXT: &[u8] = b"sum 18446744073709551615 00000000deadbeef deadbeef 0000fab";
 
 #[test]
-fn numbers_are_read_from_their_digits(rt: HostRuntime) {
+fn hexadecimal_numbers_are_read_from_their_digits(rt: HostRuntime) {
     for (text, want) in [
         ("0", Some(0)),
         ("00ff", Some(255)),
@@ -37,6 +37,10 @@ fn numbers_are_read_from_their_digits(rt: HostRuntime) {
     ] {
         assert_eq!(rt; read_hex(text.as_bytes()), want, "at {text}");
     }
+}
+
+#[test]
+fn decimal_numbers_are_read_from_their_digits(rt: HostRuntime) {
     for (text, want) in [
         ("0", Some(0)),
         ("00000000000000000042", Some(42)),
@@ -92,6 +96,11 @@ fn a_sink_without_room_keeps_what_fits(rt: HostRuntime) -> Result<(), Fail> {
         assert_eq!(rt; result.is_ok(), room == TEXT.len(), "with room {room}");
         assert!(rt; TEXT.starts_with(sink.bytes()), "with room {room}");
     }
+    Ok(())
+}
+
+#[test]
+fn a_sink_without_room_takes_what_fits_next(rt: HostRuntime) -> Result<(), Fail> {
     let mut sink = MemSink::new(rt.alloc(), 3, vec![in rt.alloc(); 0, 2]?)?;
     assert_eq!(rt; sink.put(b"over"), Err(Failed));
     assert_eq!(rt; sink.put(b"a"), Ok(()));
@@ -146,18 +155,22 @@ impl Read for Broken {
 }
 
 #[test]
-fn the_edge_passes_bytes_and_counts_errors(rt: HostRuntime) -> Result<(), Fail> {
+fn the_edge_passes_bytes_in(rt: HostRuntime) -> Result<(), Fail> {
     let mut source = StdSource::new(b"off-chip".as_slice());
     assert_eq!(rt;
         read_all(rt.alloc(), &mut source, 8)?.as_slice(),
         b"off-chip".as_slice()
     );
     assert_eq!(rt; StdSource::new(Broken).read(&mut [0; 4]), Err(Failed));
+    Ok(())
+}
+
+#[test]
+fn the_edge_passes_bytes_out(rt: HostRuntime) {
     let mut room = [0u8; 4];
     let mut sink = StdSink::new(room.as_mut_slice());
     assert_eq!(rt; sink.put(b"abc"), Ok(()));
     assert_eq!(rt; sink.put(b"de"), Err(Failed));
     drop(sink);
     assert_eq!(rt; room, *b"abcd");
-    Ok(())
 }
