@@ -209,6 +209,7 @@ fn a_history_is_filled(rt: HostRuntime) -> Result<(), Fail> {
     assert_eq!(rt; history.room(), (2, 6));
     assert_eq!(rt; history.add_bytes(&BYTES), 0);
     assert_eq!(rt; history.add_bytes(&[0x7f]), 4);
+    assert_eq!(rt; history.room(), (2, 1));
     history.add(FIRST);
     history.add(SECOND);
     assert_eq!(rt; history.room(), (0, 1));
