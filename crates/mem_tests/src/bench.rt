@@ -145,24 +145,18 @@ impl<D: Digester, F: Fn(&[SlotUse]) -> usize + Drop> Bench<D, F> {
         }
     }
 
-    pub(crate) fn ask(
-        &mut self,
-        rt: &impl Abort,
-        page: u32,
-        offset: u16,
-    ) -> Result<Sealed<D>, Broken>
+    /// Asks for the path of a byte, which holds.
+    pub(crate) fn asks(&mut self, rt: &impl Abort, page: u32, offset: u16) -> Sealed<D>
         requires { NamesPosition F.Fn self.old }
         ensures { NamesPosition F.Fn self.new }
     {
         assert!(rt; page < 64 * u32::from(self.zones));
         assert!(rt; offset < 4096);
-        match self.ctl.ask(page, offset) {
-            Ok(taken) => {
-                assert!(rt; taken.page == page && taken.block_no == (offset / 64) as u8);
-                Ok(taken.seal())
-            }
-            Err(broken) => Err(broken),
-        }
+        let Ok(taken) = self.ctl.ask(page, offset) else {
+            panic!(rt; "page {page}, offset {offset}");
+        };
+        assert!(rt; taken.page == page && taken.block_no == (offset / 64) as u8);
+        taken.seal()
     }
 
     /// Reads the first word of a sealed block by its path.
@@ -182,6 +176,35 @@ impl<D: Digester, F: Fn(&[SlotUse]) -> usize + Drop> Bench<D, F> {
         ensures { NamesPosition F.Fn self.new }
     {
         assert_eq!(rt; self.tell_read(rt, sealed), Ok(word));
+    }
+
+    /// Is refused a read by a path, since the zone has another root by now.
+    pub(crate) fn has_another_root(&mut self, rt: &impl Abort, sealed: &Sealed<D>) -> bool
+        requires { NamesPosition F.Fn self.old }
+        ensures { NamesPosition F.Fn self.new }
+    {
+        let asked = sealed.taken().root;
+        match self.tell_read(rt, sealed) {
+            Err(
+                Told::Again {
+                    taken_root,
+                    root: Some(root),
+                },
+            ) => taken_root == asked && root != asked,
+            _ => false,
+        }
+    }
+
+    /// Is refused a read by a path, since the zone isn't mounted by now.
+    pub(crate) fn has_no_root(&mut self, rt: &impl Abort, sealed: &Sealed<D>) -> bool
+        requires { NamesPosition F.Fn self.old }
+        ensures { NamesPosition F.Fn self.new }
+    {
+        let again = Told::Again {
+            taken_root: sealed.taken().root,
+            root: None,
+        };
+        self.tell_read(rt, sealed) == Err(again)
     }
 
     /// Writes the first word of a sealed block by its path.

@@ -2,7 +2,7 @@
 ghost use Rattle.mem_slots.specs.Choices.{NamesPosition};
 
 use crate::bench::{Access, Bench};
-use mem_ctl::{Broken, Told};
+use mem_ctl::{Broken, Collision, Told};
 use mem_slots::{Choice, SlotUse, fewest_uses, first_mounted};
 use pl_base::Place;
 use pl_digest::{OneByte, Sha};
@@ -134,6 +134,14 @@ fn other_bytes_of_the_same_digest_collide(rt: HostRuntime) -> Result<(), Fail> {
     Ok(())
 }
 
+// A collision is at this place, and of these bytes there: the one that is held, and the one that was written.
+fn is_found(rt: &impl Abort, found: &Collision, place: Place, at: usize, bytes: (u8, u8)) {
+    let (held, written) = bytes;
+    assert_eq!(rt; found.place, place);
+    assert_eq!(rt; found.held.get(at), Some(&held));
+    assert_eq!(rt; found.written.get(at), Some(&written));
+}
+
 // A byte of a place becomes another, a read of page 20 finds the collision, and the byte is mended.
 fn collides<F: Fn(&[SlotUse]) -> usize + Drop>(
     rt: &impl Abort,
@@ -152,9 +160,7 @@ fn collides<F: Fn(&[SlotUse]) -> usize + Drop>(
     bench.attack(rt, pa + at, &[byte]);
     match bench.attempt(rt, Access::Read) {
         Some(Broken::Collision(found)) => {
-            assert_eq!(rt; found.place, place);
-            assert_eq!(rt; found.held.get(at as usize), Some(&byte));
-            assert_eq!(rt; found.written.get(at as usize), Some(&right[0]));
+            is_found(rt, &found, place, at as usize, (byte, right[0]));
         }
         other => panic!(rt; "{place:?}: {other:?}"),
     }
@@ -243,39 +249,31 @@ fn slot(zone: u8, uses: u64) -> SlotUse {
     SlotUse { zone, uses }
 }
 
-// A path that was asked for is obeyed while the root of its zone stands. After a write, and where the zone isn't mounted by now, it is to
-// be asked for again. Asking counts no use, and a path that is obeyed counts one.
+// A path that was asked for is obeyed while the root of its zone stands. Asking counts no use, and a path that is obeyed counts one.
 #[test]
 fn an_asked_path_is_told_under_its_root(rt: HostRuntime) -> Result<(), Fail> {
     let oldest = Choice::new(|slots: &[SlotUse]| first_mounted(slots));
-    let mut bench = Bench::new(rt.alloc(), Sha, 2, 1, &[(20, 0, 5)], oldest)?;
-    let sealed = bench.ask(&rt, 20, 0).map_err(|_| Refused)?;
+    let mut bench = Bench::new(rt.alloc(), Sha, 1, 1, &[(20, 0, 5)], oldest)?;
+    let sealed = bench.asks(&rt, 20, 0);
     bench.mounts(&rt, &[slot(0, 0)]);
     bench.tells(&rt, &sealed, 5);
     bench.mounts(&rt, &[slot(0, 1)]);
-    assert_eq!(rt; bench.tell_write(&rt, &sealed, 9), Ok(5));
-    bench.reads(&rt, 20, 0, 9);
-    let taken_root = sealed.taken().root;
-    match bench.tell_read(&rt, &sealed) {
-        Err(
-            Told::Again {
-                taken_root: old,
-                root: Some(root),
-            },
-        ) => assert!(rt; old == taken_root && root != taken_root),
-        other => panic!(rt; "{other:?}"),
-    }
-    bench.reads(&rt, 64, 0, 0);
-    let again = Told::Again {
-        taken_root,
-        root: None,
-    };
-    assert_eq!(rt; bench.tell_read(&rt, &sealed), Err(again));
     Ok(())
 }
 
-#[derive(Clone, Copy, PartialEq, Eq, Debug)]
-struct Refused;
+// After a write, and where the zone isn't mounted by now, it is to be asked for again.
+#[test]
+fn a_path_is_asked_for_again_under_another_root(rt: HostRuntime) -> Result<(), Fail> {
+    let oldest = Choice::new(|slots: &[SlotUse]| first_mounted(slots));
+    let mut bench = Bench::new(rt.alloc(), Sha, 2, 1, &[(20, 0, 5)], oldest)?;
+    let sealed = bench.asks(&rt, 20, 0);
+    assert_eq!(rt; bench.tell_write(&rt, &sealed, 9), Ok(5));
+    bench.reads(&rt, 20, 0, 9);
+    assert!(rt; bench.has_another_root(&rt, &sealed));
+    bench.reads(&rt, 64, 0, 0);
+    assert!(rt; bench.has_no_root(&rt, &sealed));
+    Ok(())
+}
 
 // The block's bytes have the digest of the written ones when the path is taken.
 #[test]
@@ -283,7 +281,7 @@ fn a_collision_is_told(rt: HostRuntime) -> Result<(), Fail> {
     let oldest = Choice::new(|slots: &[SlotUse]| first_mounted(slots));
     let mut bench = Bench::new(rt.alloc(), OneByte, 1, 1, &[], oldest)?;
     bench.attack(&rt, 0x8001_4000, &[100]);
-    let sealed = bench.ask(&rt, 20, 0).map_err(|_| Refused)?;
+    let sealed = bench.asks(&rt, 20, 0);
     match bench.tell_read(&rt, &sealed) {
         Err(Told::Broken(Broken::Collision(found))) => {
             assert_eq!(rt; found.place, Place::Block { page: 20, block: 0 });

@@ -21,13 +21,13 @@ use std::test::Fail;
 const READ_WRITE: Perms = Perms(3);
 
 // A word is written into page 20.
-fn write<F: Fn(&[SlotUse]) -> usize>(ctl: &mut Ctl<OneByte, F>) -> Result<(), Broken>
+fn writes<F: Fn(&[SlotUse]) -> usize>(rt: &impl Abort, ctl: &mut Ctl<OneByte, F>)
     requires zone { ctl.old.0.zones ≡ 1 }
     requires choice { NamesPosition F.Fn ctl.old.1 }
     ensures zone { ctl.new.0.zones ≡ 1 }
     ensures choice { NamesPosition F.Fn ctl.new.1 }
 {
-    ctl.write_part(20, 8, 8, 9)
+    assert_eq!(rt; ctl.write_part(20, 8, 8, 9), Ok(()));
 }
 
 // Number 0 is a shadow in page 20, and number 1 its fork, with page 21 as a spare.
@@ -65,17 +65,33 @@ fn break_first<D: Digester, F: Fn(&[SlotUse]) -> usize>(
     break_page(ctl, enclaves, fences, 1, HartNo(0), EncNo(1), 0, READ_WRITE)
 }
 
-// Number 1's leaf of page 0 stands in page 8, at word 16.
+// It is done: the spare has the word, and number 1's leaf of page 0, which stands in page 8 at word 16, names the spare.
+fn breaks<F: Fn(&[SlotUse]) -> usize>(
+    rt: &impl Abort,
+    ctl: &mut Ctl<OneByte, F>,
+    enclaves: &mut Enclaves,
+) -> Result<(), Broken>
+    requires zone { ctl.old.0.zones ≡ 1 }
+    requires two { length enclaves.old ≡ 2 }
+    requires pages { (enclave_at enclaves.old 1).pages ≡ Shared 20 ∷ [] }
+    requires spares { (enclave_at enclaves.old 1).spares ≡ 21 ∷ [] }
+    requires choice { NamesPosition F.Fn ctl.old.1 }
+{
+    let mut fences = Fences::new(2);
+    break_first(ctl, enclaves, &mut fences)?;
+    assert!(rt; fences.covers(Space(2), Vpn(16)));
+    assert_eq!(rt;
+        [ctl.raw_read(21, 8), ctl.raw_read(8, 128)],
+        [9, 0x2000_54d7]
+    );
+    Ok(())
+}
+
 #[test]
 fn a_page_is_broken_under_a_fence(rt: HostRuntime) -> Result<(), Fail> {
     let mut ctl = zone(rt.alloc(), Choice::new(oldest))?;
     let mut enclaves = forked(&rt, rt.alloc())?;
-    let mut fences = Fences::new(2);
-    assert_eq!(rt; write(&mut ctl), Ok(()));
-    let broken = break_first(&mut ctl, &mut enclaves, &mut fences);
-    assert_eq!(rt; broken, Ok(()));
-    assert_eq!(rt; ctl.raw_read(21, 8), 9);
-    assert_eq!(rt; ctl.raw_read(8, 128), 0x2000_54d7);
-    assert!(rt; fences.covers(Space(2), Vpn(16)));
+    writes(&rt, &mut ctl);
+    assert_eq!(rt; breaks(&rt, &mut ctl, &mut enclaves), Ok(()));
     Ok(())
 }

@@ -61,24 +61,41 @@ fn map_page<D: Digester, F: Fn(&[SlotUse]) -> usize>(
     map(ctl, owners, fences, 1, Va(va), page, READ_WRITE)
 }
 
+// An address, a page, and what its mapping is answered.
+const MAPPED: [(u64, u32, Result<(), Stop>); 7] = [
+    (0x1001, 5, Err(Stop::No(No::BadAddress))),
+    (0x20_0000, 20, Err(Stop::No(No::BadAddress))),
+    (0x3000, 5, Err(Stop::No(No::Busy))),
+    (0x1000, 5, Err(Stop::No(No::NotYours(5)))),
+    (0x1000, 20, Ok(())),
+    (0x1000, 5, Err(Stop::No(No::Mapped))),
+    (0x2000, 20, Ok(())),
+];
+
+// The table's mappings are answered in order, with a fence open.
+fn answers<F: Fn(&[SlotUse]) -> usize>(
+    rt: &impl Abort,
+    ctl: &mut Ctl<OneByte, F>,
+    owners: &mut Owners,
+)
+    requires zone { ctl.old.0.zones ≡ 1 }
+    requires leaves { HaveHostLeaves 1 ctl.old.0 }
+    requires choice { NamesPosition F.Fn ctl.old.1 }
+    ensures zone { ctl.new.0.zones ≡ 1 }
+{
+    let mut fences = Fences::new(2);
+    fences.post(HartNo(1), Space::HOST, Some(Vpn(3)));
+    for &(va, page, want) in &MAPPED {
+        let answer = map_page(rt, ctl, owners, &fences, va, page);
+        assert_eq!(rt; answer, want, "{va}");
+    }
+}
+
 #[test]
 fn pages_are_mapped_or_refused_in_order(rt: HostRuntime) -> Result<(), Fail> {
     let mut ctl = start(rt.alloc(), Choice::new(oldest))?;
     let mut owners = Owners::new(rt.alloc(), 6, 64)?;
-    let mut fences = Fences::new(2);
-    fences.post(HartNo(1), Space::HOST, Some(Vpn(3)));
-    for (va, page, want) in [
-        (0x1001u64, 5u32, Err(Stop::No(No::BadAddress))),
-        (0x20_0000, 20, Err(Stop::No(No::BadAddress))),
-        (0x3000, 5, Err(Stop::No(No::Busy))),
-        (0x1000, 5, Err(Stop::No(No::NotYours(5)))),
-        (0x1000, 20, Ok(())),
-        (0x1000, 5, Err(Stop::No(No::Mapped))),
-        (0x2000, 20, Ok(())),
-    ] {
-        let answer = map_page(&rt, &mut ctl, &mut owners, &fences, va, page);
-        assert_eq!(rt; answer, want, "{va}");
-    }
+    answers(&rt, &mut ctl, &mut owners);
     has_owner(&rt, &owners, 20, Some(Owner::Host { maps: 2 }));
     assert_eq!(rt; ctl.raw_read(2, 8), 0x2000_50c7);
     Ok(())

@@ -15,7 +15,6 @@ use mon_life::{create_begin, destroy_begin, destroy_end, run_begin};
 use mon_owner::{Owner, Owners};
 use pl_base::{EncNo, HartNo, Memory, No, Perms, Space, State, Vpn};
 use pl_digest::OneByte;
-use rv_pmp::Pmp;
 use std::alloc::{AllocError, Global};
 use std::process::Abort;
 use std::test::Fail;
@@ -33,41 +32,27 @@ fn owners(alloc: Global) -> Result<Owners, Fail> {
     Ok(owners)
 }
 
-// The line that is begun: the first `len` of `pages`.
-#[derive(Clone, Copy)]
-struct Begun<'a> {
-    e: EncNo,
-    image: &'a Image,
-    pages: &'a [u32],
-    len: usize,
-    shadow: bool,
-}
+// The number, how many pages its image has, the pages it is begun in, whether it is a shadow, and the answer.
+type Begun = (u8, usize, &'static [u32], bool, Result<(), No>);
 
 fn begin(
     rt: &impl Abort,
     owners: &mut Owners,
     enclaves: &mut Enclaves,
-    pmp: &Pmp,
-    begun: Begun,
+    image: &Image,
+    begun: &Begun,
 ) -> Result<(), No> {
-    let Begun {
-        e,
-        image,
-        pages,
-        len,
-        shadow,
-    } = begun;
-    assert!(rt; usize::from(e.0) < enclaves.len());
-    assert!(rt; len <= pages.len());
+    let (e, _, pages, shadow, _) = *begun;
+    assert!(rt; usize::from(e) < enclaves.len());
     create_begin(
         owners,
         enclaves,
-        pmp,
+        &entries(rt),
         HartNo(0),
-        e,
+        EncNo(e),
         7,
         image,
-        &pages[..len],
+        pages,
         shadow,
     )
 }
@@ -78,58 +63,64 @@ fn run(rt: &impl Abort, enclaves: &mut Enclaves, state: State, first: bool) -> R
     run_begin(enclaves, HartNo(2), EncNo(1), first)
 }
 
-// The number, how many pages its image has, the first so many of these pages, whether it is a shadow, and the answer.
-const BEGUN: [(u8, usize, [u32; 4], usize, bool, Result<(), No>); 12] = [
-    (0, 1, [20, 0, 0, 0], 1, false, Err(No::StillMapped(20))),
-    (0, 1, [22, 22, 0, 0], 2, false, Err(No::Count)),
-    (0, 4, [22, 23, 24, 0], 3, false, Err(No::Count)),
-    (0, 4, [22, 21, 21, 22], 4, false, Err(No::Twice(22))),
-    (0, 4, [20, 21, 8, 22], 4, false, Err(No::NotYours(8))),
-    (0, 2, [21, 64, 0, 0], 2, true, Err(No::NotYours(64))),
-    (0, 2, [21, 20, 0, 0], 2, false, Err(No::StillMapped(20))),
-    (0, 2, [63, 21, 0, 0], 2, false, Err(No::Barred(21))),
-    (0, 2, [63, 9, 0, 0], 2, false, Ok(())),
-    (0, 1, [8, 8, 0, 0], 2, false, Err(No::Exists)),
-    (1, 2, [22, 9, 0, 0], 2, true, Err(No::NotYours(9))),
-    (1, 1, [22, 0, 0, 0], 1, true, Ok(())),
+const BEGUN: [Begun; 12] = [
+    (0, 1, &[20], false, Err(No::StillMapped(20))),
+    (0, 1, &[22, 22], false, Err(No::Count)),
+    (0, 4, &[22, 23, 24], false, Err(No::Count)),
+    (0, 4, &[22, 21, 21, 22], false, Err(No::Twice(22))),
+    (0, 4, &[20, 21, 8, 22], false, Err(No::NotYours(8))),
+    (0, 2, &[21, 64], true, Err(No::NotYours(64))),
+    (0, 2, &[21, 20], false, Err(No::StillMapped(20))),
+    (0, 2, &[63, 21], false, Err(No::Barred(21))),
+    (0, 2, &[63, 9], false, Ok(())),
+    (0, 1, &[8, 8], false, Err(No::Exists)),
+    (1, 2, &[22, 9], true, Err(No::NotYours(9))),
+    (1, 1, &[22], true, Ok(())),
 ];
+
+// Every line of the table is answered as it says.
+fn answers(
+    rt: &impl Abort,
+    alloc: Global,
+    owners: &mut Owners,
+    enclaves: &mut Enclaves,
+) -> Result<(), AllocError> {
+    for begun in &BEGUN {
+        let (_, count, pages, _, want) = *begun;
+        let image = image(rt, alloc, count)?;
+        let answer = begin(rt, owners, enclaves, &image, begun);
+        assert_eq!(rt; answer, want, "{pages:?}");
+    }
+    Ok(())
+}
 
 #[test]
 fn numbers_are_begun_or_refused_in_order(rt: HostRuntime) -> Result<(), Fail> {
     let mut owners = owners(rt.alloc())?;
     let mut enclaves = Enclaves::new(rt.alloc(), 2)?;
-    let pmp = entries(&rt);
-    for (e, count, pages, len, shadow, want) in BEGUN {
-        let image = image(&rt, rt.alloc(), count)?;
-        let begun = Begun {
-            e: EncNo(e),
-            image: &image,
-            pages: &pages,
-            len,
-            shadow,
-        };
-        let answer = begin(&rt, &mut owners, &mut enclaves, &pmp, begun);
-        assert_eq!(rt; answer, want, "{pages:?}");
-    }
+    answers(&rt, rt.alloc(), &mut owners, &mut enclaves)?;
     has_owner(&rt, &owners, 63, Some(Owner::Enclave(EncNo(0))));
     has_owner(&rt, &owners, 22, Some(Owner::Shadow(EncNo(1))));
     has_owner(&rt, &owners, 21, Some(Owner::Host { maps: 0 }));
     Ok(())
 }
 
+// A state, whether the run is the first, and its answer.
+const ENTERED: [(State, bool, Result<(), No>); 8] = [
+    (State::Free, true, Err(No::NoEnclave)),
+    (State::Sealed, false, Err(No::NoEnclave)),
+    (State::Paused, true, Err(No::WrongState(State::Paused))),
+    (State::Fresh, false, Err(No::WrongState(State::Fresh))),
+    (State::Building, true, Err(No::WrongState(State::Building))),
+    (State::Fresh, true, Ok(())),
+    (State::On, false, Err(No::WrongState(State::On))),
+    (State::Paused, false, Ok(())),
+];
+
 #[test]
 fn an_enclave_is_entered_from_fresh_or_paused(rt: HostRuntime) -> Result<(), Fail> {
     let mut enclaves = Enclaves::new(rt.alloc(), 2)?;
-    for (state, first, want) in [
-        (State::Free, true, Err(No::NoEnclave)),
-        (State::Sealed, false, Err(No::NoEnclave)),
-        (State::Paused, true, Err(No::WrongState(State::Paused))),
-        (State::Fresh, false, Err(No::WrongState(State::Fresh))),
-        (State::Building, true, Err(No::WrongState(State::Building))),
-        (State::Fresh, true, Ok(())),
-        (State::On, false, Err(No::WrongState(State::On))),
-        (State::Paused, false, Ok(())),
-    ] {
+    for &(state, first, want) in &ENTERED {
         assert_eq!(rt; run(&rt, &mut enclaves, state, first), want, "{state:?}");
     }
     assert!(rt; 1 < enclaves.len());
@@ -147,18 +138,21 @@ fn give_back(rt: &impl Abort, enclaves: &mut Enclaves, state: State) -> Result<b
     Ok(fences.covers(Space(2), Vpn(7)) && !fences.covers(Space(1), Vpn(7)))
 }
 
+// A state, and whether the space is fenced.
+const GIVEN_BACK: [(State, Result<bool, No>); 7] = [
+    (State::Free, Err(No::NoEnclave)),
+    (State::Sealed, Err(No::NoEnclave)),
+    (State::On, Err(No::WrongState(State::On))),
+    (State::Building, Err(No::WrongState(State::Building))),
+    (State::Dying, Err(No::WrongState(State::Dying))),
+    (State::Fresh, Ok(true)),
+    (State::Faulted, Ok(true)),
+];
+
 #[test]
 fn an_enclave_is_given_back_where_no_line_has_it(rt: HostRuntime) -> Result<(), Fail> {
     let mut enclaves = Enclaves::new(rt.alloc(), 2)?;
-    for (state, want) in [
-        (State::Free, Err(No::NoEnclave)),
-        (State::Sealed, Err(No::NoEnclave)),
-        (State::On, Err(No::WrongState(State::On))),
-        (State::Building, Err(No::WrongState(State::Building))),
-        (State::Dying, Err(No::WrongState(State::Dying))),
-        (State::Fresh, Ok(true)),
-        (State::Faulted, Ok(true)),
-    ] {
+    for &(state, want) in &GIVEN_BACK {
         assert_eq!(rt; give_back(&rt, &mut enclaves, state), want, "{state:?}");
     }
     assert!(rt; 1 < enclaves.len());
@@ -201,19 +195,34 @@ fn end<F>(ctl: &mut Ctl<OneByte, F>, owners: &mut Owners, enclaves: &mut Enclave
     destroy_end(ctl, owners, enclaves, &mut fences, HartNo(0), EncNo(0));
 }
 
+// Of three pages with a word each, those that it was built in are zeroed, and all but the other are the host's.
+fn gives_back<F>(
+    rt: &impl Abort,
+    ctl: &mut Ctl<OneByte, F>,
+    owners: &mut Owners,
+    enclaves: &mut Enclaves,
+)
+    requires zone { ctl.old.0.zones ≡ 1 }
+    requires owners { length owners.old ≡ 64 }
+    requires one { length enclaves.old ≡ 1 }
+    requires held { held_by enclaves.old 0 ≡ 21 ∷ 63 ∷ [] }
+{
+    write(ctl, 21);
+    write(ctl, 22);
+    write(ctl, 63);
+    end(ctl, owners, enclaves);
+    assert_eq!(rt; words(ctl), [0, 9, 0]);
+    has_owner(rt, owners, 21, Some(Owner::Host { maps: 0 }));
+    has_owner(rt, owners, 22, Some(Owner::Enclave(EncNo(0))));
+    has_owner(rt, owners, 63, Some(Owner::Host { maps: 0 }));
+    assert_eq!(rt; enclaves.get(EncNo(0)).state, State::Free);
+}
+
 #[test]
 fn its_pages_are_zeroed_pages_of_the_host(rt: HostRuntime) -> Result<(), Fail> {
     let mut ctl = zone(rt.alloc(), Choice::new(oldest))?;
     let mut owners = taken(rt.alloc())?;
     let mut enclaves = built(&rt, rt.alloc())?;
-    write(&mut ctl, 21);
-    write(&mut ctl, 22);
-    write(&mut ctl, 63);
-    end(&mut ctl, &mut owners, &mut enclaves);
-    assert_eq!(rt; words(&ctl), [0, 9, 0]);
-    has_owner(&rt, &owners, 21, Some(Owner::Host { maps: 0 }));
-    has_owner(&rt, &owners, 22, Some(Owner::Enclave(EncNo(0))));
-    has_owner(&rt, &owners, 63, Some(Owner::Host { maps: 0 }));
-    assert_eq!(rt; enclaves.get(EncNo(0)).state, State::Free);
+    gives_back(&rt, &mut ctl, &mut owners, &mut enclaves);
     Ok(())
 }

@@ -109,7 +109,7 @@ fn forks_and_grants_are_refused_in_order(rt: HostRuntime) -> Result<(), Fail> {
     map_once(&mut owners, 20);
     let mut enclaves = numbers(&rt, rt.alloc())?;
     let pmp = entries(&rt);
-    for (line, want) in LINES {
+    for &(line, want) in &LINES {
         let got = answer(&rt, &mut owners, &mut enclaves, &pmp, line);
         assert_eq!(rt; got, want, "{line:?}");
     }

@@ -21,37 +21,43 @@ const PIECES: [Piece<'static>; 9] = [
 
 const TEXT: &[u8] = b"sum 18446744073709551615 00000000deadbeef deadbeef 0000fab";
 
+// Digits, and the number that they are.
+const HEXADECIMAL: [(&str, Option<u64>); 10] = [
+    ("0", Some(0)),
+    ("00ff", Some(255)),
+    ("deadbeef", Some(0xdead_beef)),
+    ("ffffffffffffffff", Some(u64::MAX)),
+    ("00000000000000001", None),
+    ("", None),
+    ("fF", None),
+    ("0x1", None),
+    ("+1", None),
+    ("1 ", None),
+];
+
 #[test]
 fn hexadecimal_numbers_are_read_from_their_digits(rt: HostRuntime) {
-    for (text, want) in [
-        ("0", Some(0)),
-        ("00ff", Some(255)),
-        ("deadbeef", Some(0xdead_beef)),
-        ("ffffffffffffffff", Some(u64::MAX)),
-        ("00000000000000001", None),
-        ("", None),
-        ("fF", None),
-        ("0x1", None),
-        ("+1", None),
-        ("1 ", None),
-    ] {
+    for &(text, want) in &HEXADECIMAL {
         assert_eq!(rt; read_hex(text.as_bytes()), want, "at {text}");
     }
 }
 
+// Digits, and the number that they are.
+const DECIMAL: [(&str, Option<u64>); 9] = [
+    ("0", Some(0)),
+    ("00000000000000000042", Some(42)),
+    ("18446744073709551615", Some(u64::MAX)),
+    ("18446744073709551616", None),
+    ("99999999999999999999", None),
+    ("000000000000000000001", None),
+    ("", None),
+    ("1a", None),
+    ("-1", None),
+];
+
 #[test]
 fn decimal_numbers_are_read_from_their_digits(rt: HostRuntime) {
-    for (text, want) in [
-        ("0", Some(0)),
-        ("00000000000000000042", Some(42)),
-        ("18446744073709551615", Some(u64::MAX)),
-        ("18446744073709551616", None),
-        ("99999999999999999999", None),
-        ("000000000000000000001", None),
-        ("", None),
-        ("1a", None),
-        ("-1", None),
-    ] {
+    for &(text, want) in &DECIMAL {
         assert_eq!(rt; read_dec(text.as_bytes()), want, "at {text}");
     }
 }

@@ -13,6 +13,6 @@ pub(crate) const A: u64 = 1 << 6;
 pub(crate) const D: u64 = 1 << 7;
 
 /// A table word with a page number and these bits.
-pub(crate) fn word(ppn: u32, bits: u64) -> u64 {
-    (u64::from(ppn) << 10) | bits
+pub(crate) fn word(ppn: u64, bits: u64) -> u64 {
+    (ppn << 10) | bits
 }
