@@ -18,8 +18,6 @@ const NAPOT: u8 = 3 << 3;
 
 const ALL: u8 = R | W | X;
 
-const OFF: (u8, u64) = (0, 0);
-
 // The address that most rules begin at.
 const BASE: u64 = 0x8000_0000;
 
@@ -29,13 +27,14 @@ const AT: u64 = BASE >> 2;
 // The register of page 21, at 0x8001_5000.
 const PAGE: u64 = 0x2000_5400;
 
-// The words of four rules.
-type Rules = [(u8, u64); 4];
+// The words of the first rules.
+type Rules = &'static [(u8, u64)];
 
-// Up to four rules, and OFF after them.
+// The first rules, 16 at most, and OFF after them.
 fn with_rules(rt: &impl Abort, first: Rules) -> Pmp {
     let mut rules = [Rule::default(); 16];
     for (i, (cfg, addr)) in first.iter().enumerate() {
+        assert!(rt; i < 16);
         rules[i] = Rule {
             cfg: *cfg,
             addr: *addr,
@@ -65,28 +64,28 @@ fn a_rule_is_valid_by_its_bits(rt: HostRuntime) {
     }
 }
 
-const UP_TO: Rules = [(0, AT), (TOR | R, AT + 0x400), OFF, OFF];
+const UP_TO: Rules = &[(0, AT), (TOR | R, AT + 0x400)];
 
-const UPSIDE_DOWN: Rules = [(0, AT + 2), (TOR | R, AT), (TOR | R, AT + 0x400), OFF];
+const UPSIDE_DOWN: Rules = &[(0, AT + 2), (TOR | R, AT), (TOR | R, AT + 0x400)];
 
-const FOUR: Rules = [(NA4 | R, AT), OFF, OFF, OFF];
+const FOUR: Rules = &[(NA4 | R, AT)];
 
-const EIGHT: Rules = [(NAPOT | R, AT), OFF, OFF, OFF];
+const EIGHT: Rules = &[(NAPOT | R, AT)];
 
-const SIXTEEN: Rules = [(NAPOT | R, AT | 1), OFF, OFF, OFF];
+const SIXTEEN: Rules = &[(NAPOT | R, AT | 1)];
 
-const ONE_PAGE: Rules = [(NAPOT | R, 0x2000_55ff), OFF, OFF, OFF];
+const ONE_PAGE: Rules = &[(NAPOT | R, 0x2000_55ff)];
 
-const WHOLE: Rules = [(NAPOT | ALL, (1 << 54) - 1), OFF, OFF, OFF];
+const WHOLE: Rules = &[(NAPOT | ALL, (1 << 54) - 1)];
 
-const HALVES: Rules = [(NA4 | R, AT), (NA4 | R, AT + 1), OFF, OFF];
+const HALVES: Rules = &[(NA4 | R, AT), (NA4 | R, AT + 1)];
 
-const HOLE: Rules = [(NA4 | X, AT), (NAPOT | R, AT), OFF, OFF];
+const HOLE: Rules = &[(NA4 | X, AT), (NAPOT | R, AT)];
 
 // The rules, an access, and whether it is allowed.
 const ACCESSES: [(Rules, u64, u8, Kind, bool); 40] = [
-    ([OFF, OFF, OFF, OFF], BASE, 8, Load, false),
-    ([(ALL, AT), OFF, OFF, OFF], BASE, 1, Load, false),
+    (&[], BASE, 8, Load, false),
+    (&[(ALL, AT)], BASE, 1, Load, false),
     (UP_TO, BASE, 8, Load, true),
     (UP_TO, BASE - 1, 1, Load, false),
     (UP_TO, BASE - 8, 8, Load, false),
@@ -95,8 +94,8 @@ const ACCESSES: [(Rules, u64, u8, Kind, bool); 40] = [
     (UP_TO, BASE + 0x1000, 1, Load, false),
     (UP_TO, BASE, 8, Store, false),
     (UP_TO, BASE, 4, Fetch, false),
-    ([(TOR | R, 2), OFF, OFF, OFF], 0, 8, Load, true),
-    ([(TOR | R, 2), OFF, OFF, OFF], 8, 1, Load, false),
+    (&[(TOR | R, 2)], 0, 8, Load, true),
+    (&[(TOR | R, 2)], 8, 1, Load, false),
     (UPSIDE_DOWN, BASE, 8, Load, true),
     (UPSIDE_DOWN, BASE + 8, 8, Load, true),
     (FOUR, BASE, 4, Load, true),
@@ -139,44 +138,37 @@ const WHOLE_PAGE: (u8, u64) = (NAPOT | ALL, 0x2000_55ff);
 
 // The rules, a page, and whether all of it is allowed.
 const PAGES: [(Rules, u32, bool); 14] = [
-    ([OFF, OFF, OFF, OFF], 21, false),
-    ([WHOLE_PAGE, OFF, OFF, OFF], 21, true),
-    ([WHOLE_PAGE, OFF, OFF, OFF], 20, false),
-    ([WHOLE_PAGE, OFF, OFF, OFF], 22, false),
-    ([(NAPOT | R | W, 0x2000_55ff), OFF, OFF, OFF], 21, false),
-    ([WHOLE_PAGE, (NAPOT | R, PAGE), OFF, OFF], 21, true),
-    ([(NAPOT | R, PAGE), WHOLE_PAGE, OFF, OFF], 21, false),
-    ([(NAPOT | R, PAGE + 0x3fe), WHOLE_PAGE, OFF, OFF], 21, false),
-    ([(NA4 | ALL, PAGE + 0x40), WHOLE_PAGE, OFF, OFF], 21, false),
-    ([(NAPOT | ALL, PAGE + 0x40), WHOLE_PAGE, OFF, OFF], 21, true),
+    (&[], 21, false),
+    (&[WHOLE_PAGE], 21, true),
+    (&[WHOLE_PAGE], 20, false),
+    (&[WHOLE_PAGE], 22, false),
+    (&[(NAPOT | R | W, 0x2000_55ff)], 21, false),
+    (&[WHOLE_PAGE, (NAPOT | R, PAGE)], 21, true),
+    (&[(NAPOT | R, PAGE), WHOLE_PAGE], 21, false),
+    (&[(NAPOT | R, PAGE + 0x3fe), WHOLE_PAGE], 21, false),
+    (&[(NA4 | ALL, PAGE + 0x40), WHOLE_PAGE], 21, false),
+    (&[(NAPOT | ALL, PAGE + 0x40), WHOLE_PAGE], 21, true),
     (
-        [
+        &[
             (0, PAGE),
             (TOR | ALL, PAGE + 0x200),
             (TOR | ALL, PAGE + 0x400),
-            OFF,
         ],
         21,
         true,
     ),
     (
-        [
+        &[
             (0, PAGE),
             (TOR | ALL, PAGE + 0x201),
             (TOR | ALL, PAGE + 0x400),
-            OFF,
         ],
         21,
         false,
     ),
-    ([(0, PAGE), (TOR | ALL, PAGE + 0x3fe), OFF, OFF], 21, false),
+    (&[(0, PAGE), (TOR | ALL, PAGE + 0x3fe)], 21, false),
     (
-        [
-            (NA4 | R, PAGE - 1),
-            (NA4 | R, PAGE + 0x400),
-            WHOLE_PAGE,
-            OFF,
-        ],
+        &[(NA4 | R, PAGE - 1), (NA4 | R, PAGE + 0x400), WHOLE_PAGE],
         21,
         true,
     ),
