@@ -85,9 +85,9 @@ fn answers<F: Fn(&[SlotUse]) -> usize>(
 {
     let mut fences = Fences::new(2);
     fences.post(HartNo(1), Space::HOST, Some(Vpn(3)));
-    for &(va, page, want) in &MAPPED {
-        let answer = map_page(rt, ctl, owners, &fences, va, page);
-        assert_eq!(rt; answer, want, "{va}");
+    for (va, page, want) in &MAPPED {
+        let answer = map_page(rt, ctl, owners, &fences, *va, *page);
+        assert_eq!(rt; answer, *want, "{va}");
     }
 }
 
