@@ -1,13 +1,12 @@
 // Whatever the rule of eviction, a run without an attack answers the same.
 ghost use Rattle.mem_slots.specs.Choices.{NamesPosition};
 
+use crate::runs::run_of;
 use mem_slots::{Choice, SlotUse, first_mounted};
-use penglai_main::{Status, solo_with};
+use penglai_main::Status;
 use pl_digest::Sha;
-use pl_io::MemSink;
 use std::alloc::Global;
 use std::test::Fail;
-use world_setup::read_setup;
 
 // Pages in three zones and tables in a fourth, with slots for two.
 const SETUP: &str =
@@ -22,12 +21,8 @@ fn answers_the_same<F: Fn(&[SlotUse]) -> usize + Drop>(
 ) -> Result<bool, Fail>
     requires { NamesPosition F.Fn rule }
 {
-    let setup = read_setup(alloc, SETUP.as_bytes())?;
-    let Ok(mut sink) = MemSink::new(alloc, 65536, Vec::new(alloc)) else {
-        return Err(Fail::from("no memory for the sink"));
-    };
-    let status = solo_with(alloc, Sha, setup, &mut sink, rule);
-    Ok(status == Status::Done && sink.bytes().starts_with(HISTORY.as_bytes()))
+    let (status, written) = run_of(alloc, Sha, SETUP, rule)?;
+    Ok(status == Status::Done && written.as_slice().starts_with(HISTORY.as_bytes()))
 }
 
 #[test]

@@ -1,10 +1,9 @@
 // A run whose digests are a single byte: the attacker finds another block of the same digest, and the run says so.
+use crate::runs::run_of;
 use mem_slots::{Choice, SlotUse, first_mounted};
-use penglai_main::{Status, solo_with};
+use penglai_main::Status;
 use pl_digest::OneByte;
-use pl_io::MemSink;
 use std::test::Fail;
-use world_setup::read_setup;
 
 // The attacker's block is the one with the least first byte, and zeros after it, whose digest has the first byte of the image's.
 const SETUP: &str =
@@ -15,13 +14,9 @@ const PRINTED: &str =
 
 #[test]
 fn a_collision_ends_the_run(rt: HostRuntime) -> Result<(), Fail> {
-    let setup = read_setup(rt.alloc(), SETUP.as_bytes())?;
-    let Ok(mut sink) = MemSink::new(rt.alloc(), 65536, Vec::new(rt.alloc())) else {
-        return Err(Fail::from("no memory for the sink"));
-    };
     let oldest = Choice::new(|slots: &[SlotUse]| first_mounted(slots));
-    let status = solo_with(rt.alloc(), OneByte, setup, &mut sink, oldest);
+    let (status, written) = run_of(rt.alloc(), OneByte, SETUP, oldest)?;
     assert_eq!(rt; status, Status::Collision);
-    assert_eq!(rt; sink.bytes(), PRINTED.as_bytes());
+    assert_eq!(rt; written.as_slice(), PRINTED.as_bytes());
     Ok(())
 }

@@ -10,6 +10,8 @@ mod collision_tests;
 #[cfg(test)]
 mod generate_tests;
 #[cfg(test)]
+mod runs;
+#[cfg(test)]
 mod setup_tests;
 #[cfg(test)]
 mod top_tests;

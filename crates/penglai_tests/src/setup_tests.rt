@@ -65,7 +65,7 @@ fn shown_numbers(rt: HostRuntime, parts: &SetupParts) -> Result<String, Fail> {
 }
 
 // All parts of a setup.
-fn shown(rt: HostRuntime, parts: &SetupParts) -> Result<String, Fail> {
+fn shown_parts(rt: HostRuntime, parts: &SetupParts) -> Result<String, Fail> {
     let mut all = shown_numbers(rt, parts)?;
     for image in parts.images.as_slice() {
         all.push_str(shown_image(rt, image)?.as_str())?;
@@ -74,10 +74,14 @@ fn shown(rt: HostRuntime, parts: &SetupParts) -> Result<String, Fail> {
     Ok(all)
 }
 
+// All parts of the setup of a text.
+fn shown(rt: HostRuntime, text: &str) -> Result<String, Fail> {
+    let setup = read_setup(rt.alloc(), text.as_bytes())?;
+    shown_parts(rt, setup.parts())
+}
+
 #[test]
 fn reads_each_part(rt: HostRuntime) -> Result<(), Fail> {
-    let setup = read_setup(rt.alloc(), WHOLE.as_bytes())?;
-    let text = shown(rt, setup.parts())?;
-    assert_eq!(rt; text.as_str(), SHOWN);
+    assert_eq!(rt; shown(rt, WHOLE)?.as_str(), SHOWN);
     Ok(())
 }

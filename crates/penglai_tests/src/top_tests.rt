@@ -24,9 +24,7 @@ pub(crate) fn outcome(
     words.push(String::from_str(alloc, word)?)?;
     let input = Vec::from_slice(alloc, input.as_bytes())?;
     let mut source = MemSource::new(input, Vec::from_slice(alloc, failing_reads)?);
-    let Ok(mut sink) = MemSink::new(alloc, 65536, Vec::from_slice(alloc, failing_puts)?) else {
-        return Err(Fail::from("no memory for the sink"));
-    };
+    let mut sink = MemSink::new(alloc, 65536, Vec::from_slice(alloc, failing_puts)?)?;
     let oldest = Choice::new(|slots: &[SlotUse]| first_mounted(slots));
     let least = Choice::new(|slots: &[SlotUse]| fewest_uses(slots));
     let status = quick(alloc, &words, &mut source, &mut sink, oldest, least);
