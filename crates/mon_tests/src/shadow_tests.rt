@@ -150,16 +150,45 @@ fn give_back<F>(
     drop_shadow(ctl, owners, enclaves, s)
 }
 
+// A number isn't given back as a shadow, for this cause.
+fn is_kept<F>(
+    rt: &impl Abort,
+    ctl: &mut Ctl<OneByte, F>,
+    owners: &mut Owners,
+    enclaves: &mut Enclaves,
+    s: EncNo,
+    cause: No,
+)
+    requires zone { ctl.old.0.zones ≡ 1 }
+    requires owners { length owners.old ≡ 64 }
+    ensures zone { ctl.new.0.zones ≡ 1 }
+    ensures owners { length owners.new ≡ 64 }
+{
+    assert_eq!(rt; give_back(rt, ctl, owners, enclaves, s), Err(cause));
+}
+
 #[test]
 fn a_shadow_is_kept_while_it_has_a_fork(rt: HostRuntime) -> Result<(), Fail> {
     let mut ctl = zone(rt.alloc(), Choice::new(oldest))?;
     let mut owners = owners(rt.alloc())?;
     let mut enclaves = numbers(&rt, rt.alloc())?;
     fork(&rt, &mut enclaves);
-    let fork = give_back(&rt, &mut ctl, &mut owners, &mut enclaves, FORK);
-    assert_eq!(rt; fork, Err(No::NoEnclave));
-    let used = give_back(&rt, &mut ctl, &mut owners, &mut enclaves, SHADOW);
-    assert_eq!(rt; used, Err(No::InUse(FORK)));
+    is_kept(
+        &rt,
+        &mut ctl,
+        &mut owners,
+        &mut enclaves,
+        FORK,
+        No::NoEnclave,
+    );
+    is_kept(
+        &rt,
+        &mut ctl,
+        &mut owners,
+        &mut enclaves,
+        SHADOW,
+        No::InUse(FORK),
+    );
     Ok(())
 }
 
@@ -172,20 +201,32 @@ fn left_alone(rt: &impl Abort, alloc: Global) -> Result<Enclaves, Fail> {
     Ok(enclaves)
 }
 
+// Of three pages with a word each, those of the shadow are zeroed pages of the host then, and it is free.
+fn is_given_back<F>(
+    rt: &impl Abort,
+    ctl: &mut Ctl<OneByte, F>,
+    owners: &mut Owners,
+    enclaves: &mut Enclaves,
+)
+    requires zone { ctl.old.0.zones ≡ 1 }
+    requires owners { length owners.old ≡ 64 }
+{
+    write(ctl, 21);
+    write(ctl, 22);
+    write(ctl, 63);
+    assert_eq!(rt; give_back(rt, ctl, owners, enclaves, SHADOW), Ok(()));
+    assert_eq!(rt; words(ctl), [9, 0, 0]);
+    has_owner(rt, owners, 22, Some(Owner::Host { maps: 0 }));
+    has_owner(rt, owners, 63, Some(Owner::Host { maps: 0 }));
+    assert!(rt; 0 < enclaves.len());
+    assert_eq!(rt; enclaves.get(SHADOW).state, State::Free);
+}
+
 #[test]
 fn a_shadow_is_given_back_after_its_forks(rt: HostRuntime) -> Result<(), Fail> {
     let mut ctl = zone(rt.alloc(), Choice::new(oldest))?;
     let mut owners = owners(rt.alloc())?;
     let mut enclaves = left_alone(&rt, rt.alloc())?;
-    write(&mut ctl, 21);
-    write(&mut ctl, 22);
-    write(&mut ctl, 63);
-    let given = give_back(&rt, &mut ctl, &mut owners, &mut enclaves, SHADOW);
-    assert_eq!(rt; given, Ok(()));
-    assert_eq!(rt; words(&ctl), [9, 0, 0]);
-    has_owner(&rt, &owners, 22, Some(Owner::Host { maps: 0 }));
-    has_owner(&rt, &owners, 63, Some(Owner::Host { maps: 0 }));
-    assert!(rt; 0 < enclaves.len());
-    assert_eq!(rt; enclaves.get(SHADOW).state, State::Free);
+    is_given_back(&rt, &mut ctl, &mut owners, &mut enclaves);
     Ok(())
 }
