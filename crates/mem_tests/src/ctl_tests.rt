@@ -261,12 +261,13 @@ fn an_asked_path_is_told_under_its_root(rt: HostRuntime) -> Result<(), Fail> {
     Ok(())
 }
 
-// After a write, and where the zone isn't mounted by now, it is to be asked for again.
+// It is obeyed more than once. After a write, and where the zone isn't mounted by now, it is to be asked for again.
 #[test]
 fn a_path_is_asked_for_again_under_another_root(rt: HostRuntime) -> Result<(), Fail> {
     let oldest = Choice::new(|slots: &[SlotUse]| first_mounted(slots));
     let mut bench = Bench::new(rt.alloc(), Sha, 2, 1, &[(20, 0, 5)], oldest)?;
     let sealed = bench.asks(&rt, 20, 0);
+    bench.tells(&rt, &sealed, 5);
     assert_eq!(rt; bench.tell_write(&rt, &sealed, 9), Ok(5));
     bench.reads(&rt, 20, 0, 9);
     assert!(rt; bench.has_another_root(&rt, &sealed));
