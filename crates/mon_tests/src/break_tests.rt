@@ -65,7 +65,7 @@ fn break_first<D: Digester, F: Fn(&[SlotUse]) -> usize>(
     break_page(ctl, enclaves, fences, 1, HartNo(0), EncNo(1), 0, READ_WRITE)
 }
 
-// It is done: the spare has the word, and number 1's leaf of page 0, which stands in page 8 at word 16, names the spare.
+// It is broken under a fence: the spare has the word, and number 1's leaf of page 0, which stands in page 8 at word 16, names the spare.
 fn breaks<F: Fn(&[SlotUse]) -> usize>(
     rt: &impl Abort,
     ctl: &mut Ctl<OneByte, F>,

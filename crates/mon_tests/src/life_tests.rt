@@ -196,7 +196,7 @@ fn end<F>(ctl: &mut Ctl<OneByte, F>, owners: &mut Owners, enclaves: &mut Enclave
 }
 
 // Of three pages with a word each, those that it was built in are zeroed, and all but the other are the host's.
-fn gives_back<F>(
+fn zeroes_its_pages<F>(
     rt: &impl Abort,
     ctl: &mut Ctl<OneByte, F>,
     owners: &mut Owners,
@@ -223,6 +223,6 @@ fn its_pages_are_zeroed_pages_of_the_host(rt: HostRuntime) -> Result<(), Fail> {
     let mut ctl = zone(rt.alloc(), Choice::new(oldest))?;
     let mut owners = taken(rt.alloc())?;
     let mut enclaves = built(&rt, rt.alloc())?;
-    gives_back(&rt, &mut ctl, &mut owners, &mut enclaves);
+    zeroes_its_pages(&rt, &mut ctl, &mut owners, &mut enclaves);
     Ok(())
 }

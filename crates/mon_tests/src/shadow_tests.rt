@@ -84,6 +84,7 @@ fn answer(
     }
 }
 
+// A line, and what it is answered.
 const LINES: [(Line, Result<(), No>); 16] = [
     (Line::Fork(1, 0, [20, 20], 2), Err(No::NoEnclave)),
     (Line::Fork(0, 0, [20, 20], 2), Err(No::Exists)),
